@@ -107,17 +107,79 @@ def lay_out(tree, edits):
 
 
 FUNCTION = re.compile(r"\s*(?:pub(?:\([^)]*\))? )?(?:const )?(?:unsafe )?fn (\w+)")
+CLAUSE = re.compile(r"\s*(?:requires|ensures|ghost)\b")
+
+# A function of a source file: its lines from 1, and the first line of its body, behind the contract.
+Function = namedtuple("Function", "name first body last")
+
+
+def functions_in(text):
+    """The functions of a source file, as the layout of `rt fmt` shows where they end."""
+    lines, found = text.split("\n"), []
+    for first, line in enumerate(lines, 1):
+        named = FUNCTION.match(line)
+        if named:
+            blanks = line[: len(line) - len(line.lstrip())]
+            rest = [(at, it.rstrip()) for at, it in enumerate(lines[first - 1 :], first)]
+            body = next((at for at, it in rest if it.endswith("{") and not CLAUSE.match(it)), None)
+            last = next((at for at, it in rest if body and at > body and it == f"{blanks}}}"), None)
+            if last:
+                found.append(Function(named[1], first, body, last))
+    return found
 
 
 def function_at(text, line):
-    """The function in which a line (from 1) of a source file stands, or None."""
-    lines = text.split("\n")
-    for at in range(min(line, len(lines)) - 1, -1, -1):
-        found = FUNCTION.match(lines[at])
-        if found:
-            end = lines[at][: len(lines[at]) - len(lines[at].lstrip())] + "}"
-            return None if end in (it.rstrip() for it in lines[at : line - 1]) else found[1]
-    return None
+    """The innermost function in which a line (from 1) of a source file is, or None."""
+    return max((it for it in functions_in(text) if it.first <= line <= it.last), key=lambda it: it.first, default=None)
+
+
+def bodies_of(edit):
+    """The files and functions whose bodies an edit changes, and None where it changes something else."""
+    found = set()
+    for file, old, _ in edit.pairs:
+        text = repository.text_of(repository.crates()[edit.crate].folder, file)
+        at = text[: text.index(old)].count("\n") + 1 if text.count(old) == 1 else 0
+        inside = function_at(text, at) if file.startswith("src/") else None
+        found.add((file, inside) if inside and inside.body < at < inside.last else None)
+    return found
+
+
+def body_of(edit):
+    """The file and the only function whose body an edit changes, or None."""
+    found = bodies_of(edit)
+    return found.pop() if len(found) == 1 else None
+
+
+def in_rounds(edits):
+    """Edits that change one body, in lists of which each changes every function once at most."""
+    rounds = []
+    for edit in edits:
+        body = body_of(edit)
+        if body:
+            free = next((it for it in rounds if body not in it), None)
+            if free is None:
+                rounds.append(free := {})
+            free[body] = edit
+    return [list(it.values()) for it in rounds]
+
+
+# What the toolchain says at a place in a file: the goal that isn't proved, or the error of a proof by hand.
+SAID_AT = re.compile(r"^(?:note: )?(?:\./)?((?:src|proofs)/[^\s:]+):(\d+):\d+: (.*)$", re.MULTILINE)
+LOST_NAME = re.compile(r"has no field|is not in scope|has no `|was not admitted")
+
+
+def how_together(edit, output):
+    """How an edit was refused that was tried with edits of other functions, or None where the output doesn't tell. A proof rests on the
+    contracts of other functions and not on their bodies, so what is said of a function is due to its own edit."""
+    file, function = body_of(edit)
+    folder = re.compile(re.escape(f"proofs/{file[len('src/') :].removesuffix('.rt')}/".replace("proofs/lib/", "proofs/")) + rf"(?:\S*/)?{function.name}/")
+    said = [it for it in SAID_AT.findall(output) if it[0] == file and function.first <= int(it[1]) <= function.last]
+    if any(it[2].startswith("error") for it in said):
+        return None
+    if said:
+        return "goal"
+    in_proof = [it[2] for it in SAID_AT.findall(output) if folder.match(it[0])]
+    return "proof" if any(not LOST_NAME.search(it) for it in in_proof) else None
 
 
 def how_of(edit, said):
@@ -129,11 +191,16 @@ def how_of(edit, said):
     at = re.match(r": refused, as it must be: (?:note: )?(?:\./)?(src/[^:]+):(\d+):", said)
     if not at:
         return "proof"
-    texts, _ = edited(edit)
-    changed = {(file, function_at(texts[file], texts[file][: texts[file].index(new)].count("\n") + 1)) for file, _, new in edit.pairs if new in texts[file]}
-    text = texts.get(at[1]) or repository.text_of(repository.crates()[edit.crate].folder, at[1])
-    goal = at[1], function_at(text, int(at[2]))
-    return "goal" if goal in changed or any(it is None for _, it in changed) else "caller"
+    bodies = bodies_of(edit)
+    is_own = None in bodies or any(at[1] == file and it.first <= int(at[2]) <= it.last for file, it in bodies)
+    return "goal" if is_own else "caller"
+
+
+def noted(edit, how, records):
+    """The records with that of an edit which was refused so."""
+    before = records.get(label(edit))
+    is_known = before is not None and before[1:] == (sum_of(edit), how)
+    return records if is_known else {**records, label(edit): Record(datetime.date.today().isoformat(), sum_of(edit), how)}
 
 
 def outcomes(edits, output):
@@ -144,15 +211,14 @@ def outcomes(edits, output):
 
 def judged(edits, output, records):
     """The records with what came of these edits, and a line for each that was not refused as it has to be."""
-    today, found, wrong = datetime.date.today().isoformat(), dict(records), []
+    found, wrong = dict(records), []
     for edit in edits:
         said = outcomes([edit], output)[label(edit)]
         how = how_of(edit, said)
-        before = records.get(label(edit))
         if how is None:
             found.pop(label(edit), None)
-        elif before is None or before[1:] != (sum_of(edit), how):
-            found[label(edit)] = Record(today, sum_of(edit), how)
+        else:
+            found = noted(edit, how, found)
         if how is None or how in WEAK:
             wrong.append(f"{label(edit)}{said}")
     return found, wrong

@@ -17,7 +17,7 @@ use Rattle.itip_app.specs.declared.stream.LoadFault.TheVariants as cause
 use Rattle.itip_app.specs.declared.stream.Unserved.{Unserved}
 use Rattle.itip_app.specs.declared.stream.Unserved.TheVariants as unserved
 
--- one desk more
+-- one more desk
 pub begun_more : (holds : List ℕ → Option (List ℕ) → Type 0) (loads : List (ℕ × List ℕ)) (number : ℕ) (desks : List Shown) (desk : Shown) →
     AreBegun holds loads number desks → Begins holds loads (number + length desks) desk → AreBegun holds loads number (desks ++ desk ∷ [])
 begun_more holds loads number [] desk are begins =
@@ -54,7 +54,7 @@ named_at loads i load number file within is desk file_is =
     subst (λ (p : ℕ × List ℕ). Contains (names_of loads) p) (at ∙ same)
     (Contains-get_or (names_of loads) i (f load) (omega (arith, within, count)))
 
--- why a file begins no desk, where it is known of a refusal
+-- why a desk can't be loaded from a file
 pub load_fault : {T : Type 0} (holds : List ℕ → Option (List ℕ) → Type 0) (file : List ℕ) (r : Result T LoadFault) (fault : LoadFault) → r ≡ Err fault →
     (r ≡ Err cause.Read → holds file None)
     → ((refusal : FileRefusal) → r ≡ Err (cause.Refused refusal) → (octets : List ℕ) × holds file (Some octets) × RefusesFile octets refusal)
@@ -63,7 +63,7 @@ load_fault holds file r cause.Read is unread known = unread is
 load_fault holds file r (cause.Refused refusal) is unread known = known refusal is
 load_fault holds file r cause.NoMemory is unread known = tt
 
--- where a desk doesn't begin nothing is read or written
+-- if a desk doesn't begin, nothing is read or written
 pub unserved_of : (holds : List ℕ → Option (List ℕ) → Type 0) (streamed : Streamed) (input output : Option (List ℕ)) (why : Unserved) →
     BeginsUpTo holds streamed why → IsUnserved holds streamed input input output output why
 unserved_of holds streamed input output (unserved.Load file fault) up_to = ((refl, refl), up_to)

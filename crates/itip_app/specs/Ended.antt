@@ -27,8 +27,8 @@ use Rattle.itip_app.specs.declared.stream.Unserved.{Unserved}
 
 -- ---- a script
 
--- What a run of a script comes to: its output was written, and whether it tells of a refusal; or after a fault a front of it, and
--- nothing where the script was not read.
+-- What a run of a script comes to: its output was written, and it is known whether that tells of a refusal; or after a fault a prefix
+-- of it was, and nothing if the script could not be read.
 pub record RunComesTo (scripted : Scripted) (input old new : Option (List ℕ)) (done : Result Bool StreamFault) : Type 0 where
   pub output : IfOk done (λ refusal. IfSome input (λ text.
       WritesOutput (IsOutput scripted.window scripted.desks text) old new refusal))
@@ -43,7 +43,7 @@ pub record EndsRun (scripted : Scripted) (input old new : Option (List ℕ)) (st
 
 -- ---- the jobs of a script
 
--- What an office comes to: the same of its jobs; and nothing was written where it ended in an error of its own.
+-- What an office comes to: the same for its jobs; and nothing was written if it ended with an error of its own.
 pub record OfficeComesTo (scripted : Scripted) (input old new : Option (List ℕ)) (done : Result Bool ScriptError) : Type 0 where
   pub output : IfOk done (λ refusal. IfSome input (λ text.
       WritesOutput (IsScriptOutput scripted.window scripted.desks text) old new refusal))
@@ -59,8 +59,8 @@ pub record EndsOffice (scripted : Scripted) (input old new : Option (List ℕ)) 
 
 -- ---- a message that is shown
 
--- What showing a message comes to: its items were written, or its refusal; or after a fault a front of that, and nothing where the
--- message was not read.
+-- What showing a message comes to: its items were written, or its refusal; or after a fault a prefix of that, and nothing if the
+-- message could not be read.
 pub record ShowingComesTo (input old new : Option (List ℕ)) (done : Result Bool StreamFault) : Type 0 where
   pub output : IfOk done (λ refused. IfSome input (λ text. WritesOutput (IsShown text) old new refused))
   pub front : OnErr done (IfSome input (λ text. (shown : List ℕ) (refused : Bool) → IsShown text shown refused →
@@ -75,8 +75,8 @@ pub record EndsShowing (input old new : Option (List ℕ)) (status : ℕ) : Type
 
 -- ---- a filter
 
--- What a filter comes to, whatever its sources give: what is asked for was written, and whether it tells of a refusal, or why nothing
--- was; or after a fault a front of it, and nothing where a source was not read.
+-- What a filter comes to, whatever its sources give: what is asked for was written, and it is known whether that tells of a refusal, or
+-- why nothing was written; or after a fault a prefix of it was written, and nothing if a source could not be read.
 pub record FilterComesTo {I : Type 0} (remaining : I → Option (List ℕ)) (written : Written) (draft : Draft) (names : List SourceName)
     (than sources : List I) (old new : Option (List ℕ)) (done : Result Outcome StreamFault) : Type 0
   where
@@ -96,7 +96,8 @@ pub record EndsFilter {I : Type 0} (remaining : I → Option (List ℕ)) (writte
     pub comes : FilterComesTo remaining written draft names than sources old new done
     pub status_is : status ≡ status_filtered done
 
--- A file was replaced, or not after a fault; nothing is known of it: whether a message was refused is what the compaction of the sources says.
+-- A file was replaced, or there was a fault. Nothing is known of the file; whether a message was refused is what the compaction of the
+-- sources says.
 pub record EndsReplacing {I : Type 0} (remaining : I → Option (List ℕ)) (sources : List I) (status : ℕ) : Type 0 where
   pub done : Result Outcome StreamFault
   pub output : IfOk done (λ outcome. (inputs : List (List ℕ)) → AreInputs remaining sources inputs →
@@ -105,7 +106,7 @@ pub record EndsReplacing {I : Type 0} (remaining : I → Option (List ℕ)) (sou
 
 -- ---- a stream of commands
 
--- What serving a stream comes to: it was served to its end; or a desk doesn't begin, or there was a fault.
+-- What serving a stream comes to: it was served to its end, a desk can't be loaded from its file, or there was a fault.
 pub record ServingComesTo (holds : List ℕ → Option (List ℕ) → Type 0) (streamed : Streamed) (input left old new : Option (List ℕ))
     (done : Result Bool Unserved) : Type 0
   where
@@ -121,7 +122,7 @@ pub record EndsServing (holds : List ℕ → Option (List ℕ) → Type 0) (stre
 
 -- ---- all of them
 
--- The status is that of what was asked for. Of a filter, which has its own sources and output, nothing is said here.
+-- The status is that of what was asked for. Nothing is said here of a filter, which has its own sources and output.
 abbrev pub EndsCall : (List ℕ → Option (List ℕ) → Type 0) → Call → Option (List ℕ) → Option (List ℕ) →
     Option (List ℕ) → Option (List ℕ) → ℕ → Type 0
 EndsCall holds (call.Run scripted) input left old new status = EndsRun scripted input old new status

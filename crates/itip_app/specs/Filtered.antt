@@ -38,26 +38,27 @@ use Rattle.itip_app.specs.declared.draft.Draft.{Draft}
 use Rattle.itip_app.specs.declared.filters.Outcome.{Outcome}
 use Rattle.itip_app.specs.declared.filters.Undone.TheVariants as undone
 
--- An output of which this holds was written, and whether it tells of a refusal; nothing is lacking, and nothing left undone.
+-- An output of which this holds was written, and it is known whether it tells of a refusal; nothing is lacking, and nothing was left
+-- undone.
 pub record Writes (Is : List ℕ → Bool → Type 0) (old new : Option (List ℕ)) (outcome : Outcome) : Type 0 where
   pub output : WritesOutput Is old new outcome.is_refused
   pub whole : outcome.lacking.items ≡ []
   pub is_done : outcome.undone ≡ None
 
--- After a fault: of each output of which this holds a front was written.
+-- After a fault: of each output of which this holds, a prefix was written.
 abbrev pub WritesFrontOf : (List ℕ → Bool → Type 0) → Option (List ℕ) → Option (List ℕ) → Type 0
 WritesFrontOf Is old new = (output : List ℕ) (said : Bool) → Is output said → AppendsFront old new output
 
 -- ---- the list
 
--- the octets of the rows of a window in a format
+-- the bytes of the rows of a window in a format
 abbrev pub octets_in : Format → Window → List Row → List ℕ
 octets_in format.Text window rows = list_text rows
 octets_in format.Csv window rows = csv_text rows
 octets_in format.Json window rows = json_text rows
 octets_in (format.Html day) window rows = page_markup window day.number rows
 
--- the rows that `--attendee`, `--open` and `--due-before` leave
+-- the rows that `--attendee`, `--open` and `--due-before` ask for
 pub record AreWantedBy (listing : Listing) (wanted : Wanted) : Type 0 where
   pub attendee : option_copied wanted.attendee ≡ option_map string_bytes listing.attendee
   pub is_open : wanted.is_open ≡ listing.is_open
@@ -71,7 +72,7 @@ pub record WritesList (octets : Window → List Row → List ℕ) (listing : Lis
     pub are_wanted : AreWantedBy listing wanted
     pub writes : Writes (IsTaskList octets (Wants wanted) inputs listing.window) old new outcome
 
--- After a fault a front of it was written.
+-- After a fault: a prefix of it was written.
 pub record WritesListFront (octets : Window → List Row → List ℕ) (listing : Listing) (inputs : List (List ℕ)) (old new : Option (List ℕ))
     : Type 0
   where
@@ -81,7 +82,7 @@ pub record WritesListFront (octets : Window → List Row → List ℕ) (listing 
 
 -- ---- an explanation
 
--- what comes of it: that no message is about the to-do is told
+-- the outcome of an explanation, which tells if no message is about the to-do
 abbrev pub IsOutcomeOfExplained : Explained → Outcome → Type 0
 IsOutcomeOfExplained (explained.Told is_refused) outcome =
     (outcome.is_refused ≡ is_refused) × (outcome.lacking.items ≡ []) × (outcome.undone ≡ None)
@@ -110,21 +111,21 @@ pub record WritesErrand (asked : Asked) (todos : List Todo) (at : Stamp) (inputs
     pub sends : Sends errand at inputs old new what
     pub outcome_is : IsOutcomeOfSent what outcome
 
--- The message of an errand; or nothing where the draft can't be read as a request.
+-- The message of an errand is written, or nothing if the draft can't be read as a request.
 abbrev pub WritesMessage : Option MessageRefusal → Asked → List Todo → Stamp → List (List ℕ) → Option (List ℕ) → Option (List ℕ) →
     Outcome → Type 0
 WritesMessage None asked todos at inputs old new outcome = WritesErrand asked todos at inputs old new outcome
 WritesMessage (Some refusal) asked todos at inputs old new outcome =
     Appends old new [] × (outcome.undone ≡ Some (undone.Draft refusal))
 
--- After a fault nothing was written, or a front of the message.
+-- After a fault: nothing was written, or a prefix of the message.
 pub record WritesErrandFront (asked : Asked) (todos : List Todo) (at : Stamp) (inputs : List (List ℕ)) (old new : Option (List ℕ)) : Type 0
   where
     pub errand : Errand
     pub is_errand : IsErrandOf asked todos errand
     pub front : WritesFront (IsMessage errand at inputs) old new
 
--- The same; and nothing where the draft can't be read as a request.
+-- The same; and nothing was written if the draft can't be read as a request.
 abbrev pub WritesMessageFront : Option MessageRefusal → Asked → List Todo → Stamp → List (List ℕ) → Option (List ℕ) → Option (List ℕ) →
     Type 0
 WritesMessageFront None asked todos at inputs old new = WritesErrandFront asked todos at inputs old new
@@ -132,7 +133,7 @@ WritesMessageFront (Some refusal) asked todos at inputs old new = Appends old ne
 
 -- ---- all of them
 
--- What is asked for is written of these inputs, whose sources have these names, beside those that they are compared with.
+-- What is asked for is written of these inputs, whose sources have these names; `known` are those that they are compared with.
 abbrev pub Filters : Written → Draft → List SourceName → List (List ℕ) → List (List ℕ) → Option (List ℕ) → Option (List ℕ) → Outcome →
     Type 0
 Filters (written.Compaction output) draft names known inputs old new outcome = Writes (IsCompaction inputs) old new outcome
@@ -145,7 +146,7 @@ Filters (written.Explanation uid) draft names known inputs old new outcome = Wri
 Filters (written.Message asked at) draft names known inputs old new outcome =
     WritesMessage draft.refusal asked draft.todos.items at inputs old new outcome
 
--- After a fault a front of it was written, or nothing.
+-- After a fault: a prefix of it was written, or nothing.
 abbrev pub FiltersFront : Written → Draft → List SourceName → List (List ℕ) → List (List ℕ) → Option (List ℕ) → Option (List ℕ) → Type 0
 FiltersFront (written.Compaction output) draft names known inputs old new = WritesFrontOf (IsCompaction inputs) old new
 FiltersFront (written.List listing) draft names known inputs old new = WritesListFront (octets_in listing.format) listing inputs old new

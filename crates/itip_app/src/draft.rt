@@ -9,13 +9,13 @@ use std::rt::Files;
 /// What was read of a draft.
 #[derive(Drop)]
 pub(crate) struct Draft {
-    /// Its to-dos; none where no draft is named.
+    /// Its to-dos; none if no draft is named.
     pub(crate) todos: Vec<Todo>,
-    /// Why it can't be read as a request, where that is so.
+    /// Why it can't be read as a request, if it can't.
     pub(crate) refusal: Option<MessageRefusal>,
 }
 
-/// Reads a draft, where one is named. Of a longer text than a message may be no more is read than shows it.
+/// Reads a draft, if one is named. If it is longer than a message may be, it is read only as far as shows that.
 pub(crate) fn draft_of<R: AllocGlobal + Input + Files>(
     rt: &R,
     name: &[SourceName],

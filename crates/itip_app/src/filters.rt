@@ -34,13 +34,13 @@ use std::io;
 use std::rt::Files;
 use std::thread::Threads;
 
-// The status where what was asked for can't be done.
+// The status if what was asked for can't be done.
 const NOT_DONE: u8 = 4;
 
-/// What a filter reads, by its names.
+/// The names of what a filter reads.
 #[derive(Drop)]
 pub(crate) struct Named {
-    /// The draft of a request, where there is one.
+    /// The draft of a request, if there is one.
     draft: Vec<SourceName>,
     /// The sources that others are compared with.
     than: Vec<SourceName>,
@@ -49,7 +49,7 @@ pub(crate) struct Named {
 }
 
 impl Named {
-    /// The source of a place, from 0: those that others are compared with come first.
+    /// The source at a place, from 0; those that others are compared with come first.
     pub(crate) fn at(&self, place: usize) -> Option<&SourceName> {
         match place.checked_sub(self.than.len()) {
             Some(place) => self.heard.get(place),
@@ -58,14 +58,14 @@ impl Named {
     }
 }
 
-/// What came of a filter.
+/// The outcome of a filter.
 #[derive(Drop)]
 struct Outcome {
-    /// Whether a message was refused, or a list or a report.
+    /// Whether a message was refused, or the list or the report.
     is_refused: bool,
-    /// The properties that a message which was written should have and lacks.
+    /// The properties that the written message should have and lacks.
     lacking: Vec<PropertyName>,
-    /// Why nothing was written, where that is so.
+    /// Why nothing was written, if what was asked for can't be done.
     undone: Option<Undone>,
 }
 
@@ -80,7 +80,7 @@ enum Undone {
     Draft(MessageRefusal),
 }
 
-/// Filters messages and gives the status.
+/// Filters messages and returns the exit status.
 pub(crate) fn filtered<R: AllocGlobal + Input + Print + Eprint + Files + Threads + Copy + Sync>(
     rt: &R,
     filter: &Filter,
@@ -99,7 +99,7 @@ pub(crate) fn filtered<R: AllocGlobal + Input + Print + Eprint + Files + Threads
     filter_sources(rt, &named, filter, &draft, terminals.output, &mut teller)
 }
 
-/// Says what came of a filter, and gives the status. `last` is the source that was opened last.
+/// Says what came of a filter, and returns the exit status. `last` is the source that was opened last.
 fn status_of<R: AllocGlobal + Eprint>(
     rt: &R,
     filter: &Filter,
@@ -130,7 +130,7 @@ fn names_of<R: Files + AllocGlobal + Clone + Drop>(
     Ok(Named { draft, than, heard })
 }
 
-/// The sources that words name; none where there is no word.
+/// The sources that words name; none if there are no words.
 fn sources_named<R: Files + AllocGlobal + Clone + Drop>(
     rt: &R,
     words: &[String],
@@ -158,7 +158,8 @@ fn draft_name<R: AllocGlobal>(rt: &R, written: &Written) -> Result<Vec<SourceNam
     Ok(names)
 }
 
-/// Filters the messages of the sources that are named, to a file, a terminal or whatever standard output is, and gives the status.
+/// Filters the messages of the named sources, to a file or to standard output, and returns the exit status. `is_terminal` says whether
+/// standard output is a terminal.
 fn filter_sources<R: AllocGlobal + Input + Print + Eprint + Files + Threads + Copy + Sync>(
     rt: &R,
     named: &Named,
@@ -178,7 +179,7 @@ fn filter_sources<R: AllocGlobal + Input + Print + Eprint + Files + Threads + Co
     filter_to(rt, named, filter, draft, &mut writer, teller)
 }
 
-/// Filters the messages of the sources that are named, and gives the status.
+/// Filters the messages of the named sources, and returns the exit status.
 fn filter_to<R: AllocGlobal + Input + Eprint + Files + Threads + Sync, W: io::Write>(
     rt: &R,
     named: &Named,
@@ -197,7 +198,7 @@ fn filter_to<R: AllocGlobal + Input + Eprint + Files + Threads + Sync, W: io::Wr
     filter_status(rt, than, sources, names, filter, draft, writer, teller)
 }
 
-/// Writes what is asked for of sources, as [`write_filtered`] does, says what came of it and gives the status.
+/// Writes what is asked for of sources, as [`write_filtered`] does, says what came of it and returns the exit status.
 fn filter_status<R: AllocGlobal + Eprint + Threads + Sync, I: io::Read + Drop, W: io::Write>(
     rt: &R,
     than: Vec<I>,
@@ -227,7 +228,7 @@ fn filter_status<R: AllocGlobal + Eprint + Threads + Sync, I: io::Read + Drop, W
     status_of(rt, filter, done, teller.last_opened())
 }
 
-/// Replaces a file with what is kept of the sources that are named, and gives the status.
+/// Replaces a file with what is kept of the named sources, and returns the exit status.
 fn replace<R: AllocGlobal + Input + Eprint + Files + Threads + Copy + Sync>(
     rt: &R,
     named: &Named,
@@ -241,7 +242,7 @@ fn replace<R: AllocGlobal + Input + Eprint + Files + Threads + Copy + Sync>(
     replace_status(rt, sources, filter, name, teller)
 }
 
-/// Replaces a file with what is kept of sources, says what came of it and gives the status.
+/// Replaces a file with what is kept of sources, says what came of it and returns the exit status.
 fn replace_status<R: AllocGlobal + Eprint + Files + Threads + Copy + Sync, I: io::Read + Drop>(
     rt: &R,
     sources: Vec<I>,
@@ -257,7 +258,7 @@ fn replace_status<R: AllocGlobal + Eprint + Files + Threads + Copy + Sync, I: io
     status_of(rt, filter, replaced, teller.last_opened())
 }
 
-/// Writes what is kept of sources in the place of a file.
+/// Writes what is kept of sources in place of a file. Returns an outcome that says whether a message was refused.
 fn write_replacement<R: AllocGlobal + Files + Threads + Copy + Sync, I: io::Read + Drop, S: Watch>(
     rt: &R,
     sources: Vec<I>,
@@ -274,7 +275,8 @@ fn write_replacement<R: AllocGlobal + Files + Threads + Copy + Sync, I: io::Read
     Ok(done_with(rt, is_refused))
 }
 
-/// Writes what is asked for of sources, which have these names, beside those that they are compared with.
+/// Writes what is asked for of `sources`, which have these names; `than` are those that they are compared with. On
+/// [`StreamFault::Read`] nothing has been written; on another error a prefix of the output may have been.
 fn write_filtered<R: AllocGlobal + Threads + Sync, I: io::Read + Drop, W: io::Write, S: Watch>(
     rt: &R,
     than: Vec<I>,
@@ -454,7 +456,7 @@ fn write_explanation<R: AllocGlobal + Threads + Sync, I: io::Read + Drop, W: io:
     }
 }
 
-/// Writes a message. Where the draft of a request is refused, the messages are read all the same: those that are refused are named.
+/// Writes a message. If the draft of a request is refused, the messages are read all the same, and `watch` is told of the refused ones.
 fn write_message<R: AllocGlobal + Threads + Sync, I: io::Read + Drop, W: io::Write, S: Watch>(
     rt: &R,
     draft: &Draft,
@@ -489,7 +491,7 @@ fn write_message<R: AllocGlobal + Threads + Sync, I: io::Read + Drop, W: io::Wri
     }
 }
 
-/// Reads sources, and tells which of their messages are refused.
+/// Reads sources, and tells `watch` which of their messages are refused.
 fn hear_only<R: AllocGlobal + Threads + Sync, I: io::Read + Drop, S: Watch>(
     rt: &R,
     sources: Vec<I>,
@@ -534,7 +536,7 @@ fn threads<R: Threads>(rt: &R, asked: Option<u64>) -> usize
     }
 }
 
-/// Says what a message lacks, or why nothing was written, and gives the status.
+/// Says what a message lacks, or why nothing was written, and returns the exit status.
 fn told<R: Eprint>(rt: &R, outcome: &Outcome, why: bool) -> u8
     ensures { result ≡ status_done outcome.now.undone outcome.now.is_refused }
 {
@@ -545,7 +547,7 @@ fn told<R: Eprint>(rt: &R, outcome: &Outcome, why: bool) -> u8
     refused_status(outcome.is_refused)
 }
 
-/// The status of what was done: 1 where something was refused.
+/// The exit status of what was done: 1 if something was refused, else 0.
 pub(crate) fn refused_status(is_refused: bool) -> u8
     ensures { result ≡ status_refused is_refused }
 {
@@ -565,7 +567,7 @@ fn complain_undone<R: Eprint>(rt: &R, undone: Undone, why: bool) -> u8
     }
 }
 
-/// Says that a source can't be read, and gives the status.
+/// Says that a source can't be read, and returns the exit status.
 fn complain_unread<R: AllocGlobal + Eprint>(rt: &R, name: Option<&SourceName>) -> u8
     ensures { result ≡ 3 }
 {
@@ -578,7 +580,7 @@ fn complain_unread<R: AllocGlobal + Eprint>(rt: &R, name: Option<&SourceName>) -
     }
 }
 
-/// Says that the output can't be written, by the name of its file where it has one, and gives the status.
+/// Says that the output can't be written, with the name of its file if it has one, and returns the exit status.
 fn complain_unwritten<R: AllocGlobal + Eprint>(rt: &R, written: &Written) -> u8
     ensures { result ≡ 3 }
 {

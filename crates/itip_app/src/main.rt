@@ -1,10 +1,10 @@
-//! The program `itipdesk`: desks for to-dos under iTIP, driven by a script on standard input, one command after another
-//! or as jobs on threads, or by a stream of commands, each answered before the next; messages of files, folders and standard
-//! input filtered to what counts of them, to what others lack, to their task list or to a report, explained, or answered by a
-//! message; or a message shown as its items.
+//! The program `itipdesk`: desks for to-dos under iTIP. It runs a script from standard input, one command after another or as jobs on
+//! threads; serves a stream of commands, each answered before the next; reads messages from files, folders and standard input, and
+//! writes what counts of them, what others lack, their task list, a report, an explanation, or a message to send; or shows a message
+//! as its items.
 //!
-//! Its status is 0, or 1 where something was refused, 2 for bad words or a bad window, 3 for a fault, and 4 where what was asked
-//! for can't be done.
+//! Its exit status is 0, or 1 if something was refused, 2 for bad words or a bad window, 3 for a fault, and 4 if what was asked for
+//! can't be done.
 #![tactic(auto)]
 
 mod draft;

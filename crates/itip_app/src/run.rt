@@ -39,7 +39,7 @@ pub(crate) struct Terminals {
     pub(crate) errors: bool,
 }
 
-/// Runs the program and gives its status.
+/// Runs the program and returns its exit status.
 pub(crate) fn status<
     R: AllocGlobal
         + Env
@@ -70,7 +70,7 @@ pub(crate) fn status<
     )
 }
 
-/// Does what is asked for, or says why nothing is run, and gives the status.
+/// Does what is asked for, or says why nothing is run, and returns the exit status.
 fn done<
     R: AllocGlobal + Input + Print + Eprint + Files + Threads + Wait + Copy + Send + Sync + 'static,
 >(rt: &R, call: Result<Call, NoCall>, terminals: Terminals) -> u8
@@ -84,7 +84,7 @@ fn done<
     }
 }
 
-/// Does what is asked for, of standard input and to standard output, and gives the status.
+/// Does what is asked for, from standard input and to standard output, and returns the exit status.
 fn called<
     R: AllocGlobal + Input + Print + Eprint + Files + Threads + Wait + Copy + Send + Sync + 'static,
 >(rt: &R, call: Call, terminals: Terminals) -> u8
@@ -99,7 +99,8 @@ fn called<
     call_on(rt, &mut files, &mut reader, &mut writer, call, terminals)
 }
 
-/// Does what is asked for, of a folder and a reader and to a writer, and gives the status. A filter has its own sources and output.
+/// Does what is asked for, from a folder and a reader and to a writer, and returns the exit status. A filter has its own sources and
+/// output.
 fn call_on<
     R: AllocGlobal + Input + Print + Eprint + Files + Threads + Wait + Copy + Send + Sync + 'static,
     F: Folder + Shelf,
@@ -120,7 +121,7 @@ fn call_on<
     }
 }
 
-/// Says why nothing is run, and gives the status.
+/// Says why nothing is run, and returns the exit status.
 fn not_run<R: Print + Eprint>(rt: &R, why: NoCall) -> u8
     ensures { IsStatusOfNoCall why result }
 {
@@ -142,7 +143,7 @@ fn not_run<R: Print + Eprint>(rt: &R, why: NoCall) -> u8
     }
 }
 
-/// Runs a script of a reader, says what failed, and gives the status.
+/// Runs a script from a reader, says what failed, and returns the exit status.
 fn run<R: AllocGlobal + Eprint, I: io::Read, W: io::Write>(
     rt: &R,
     reader: &mut I,
@@ -156,7 +157,8 @@ fn run<R: AllocGlobal + Eprint, I: io::Read, W: io::Write>(
     ended(rt, run_on(rt.alloc(), reader, writer, asked, &mut watch))
 }
 
-/// Runs a script of a reader, with as many desks and in the window that is asked for.
+/// Runs a script from a reader, with as many desks and in the window that are asked for. Returns whether the output tells of a
+/// refusal. On [`StreamFault::Read`] nothing has been written; on another error a prefix of the output may have been.
 fn run_on<I: io::Read, W: io::Write, S: itip_world::Watch>(
     alloc: Global,
     reader: &mut I,
@@ -175,7 +177,7 @@ fn run_on<I: io::Read, W: io::Write, S: itip_world::Watch>(
     run_script_watched(alloc, reader, writer, desks, asked.window, watch)
 }
 
-/// Does the jobs of a script of a reader, says what failed, and gives the status.
+/// Does the jobs of a script from a reader, says what failed, and returns the exit status.
 fn office<
     R: AllocGlobal + Eprint + Threads + Wait + Copy + Send + Sync + 'static,
     I: io::Read,
@@ -192,7 +194,9 @@ fn office<
     )
 }
 
-/// Does the jobs of a script of a reader, at as many desks and in the window that is asked for.
+/// Does the jobs of a script from a reader, at as many desks and in the window that are asked for. Returns whether the output tells of
+/// a refusal. On [`StreamFault::Read`] and on [`ScriptError::Office`] nothing has been written; on another error a prefix of the
+/// output may have been.
 fn office_on<
     R: AllocGlobal + Threads + Wait + Copy + Send + Sync + 'static,
     I: io::Read,
@@ -221,7 +225,7 @@ fn office_on<
     run_jobs(rt, reader, writer, desks, workers, asked.window, watch)
 }
 
-/// Shows the message of a reader, says what failed, and gives the status.
+/// Shows the message from a reader, says what failed, and returns the exit status.
 fn show<R: AllocGlobal + Eprint, I: io::Read, W: io::Write>(
     rt: &R,
     reader: &mut I,
@@ -234,7 +238,7 @@ fn show<R: AllocGlobal + Eprint, I: io::Read, W: io::Write>(
     ended(rt, check(rt.alloc(), reader, writer, &mut watch))
 }
 
-/// The status of what was done: 1 where a refusal was written.
+/// Says what failed, and returns the exit status of what was done: 1 if a refusal was written, 3 after a fault, else 0.
 fn ended<R: Eprint, E: Display + Drop>(rt: &R, done: Result<bool, E>) -> u8
     ensures { result ≡ status_shown done }
 {

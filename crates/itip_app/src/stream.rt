@@ -1,4 +1,4 @@
-//! A stream of commands: the files with which its desks begin, and those in which they are saved.
+//! A stream of commands: the files that its desks begin with, and those that they are saved in.
 ghost use Rattle.std.specs.Prelude.{◌≡◌, ◌≢◌, ℕ, List, [], length, Option, Some, None, IfOk, IfErr, IfSome, IfNone, IsErrOf};
 ghost use Rattle.std.specs.List.{Contains};
 ghost use Rattle.itip_desk.specs.DeskFile.{TellsDesk, RefusesFile};
@@ -19,16 +19,16 @@ use std::alloc::Global;
 use std::rt::Files;
 use std::{fs, io};
 
-// The status where a file of a desk is refused.
+// The status if the file of a desk is refused.
 const NOT_READ: u8 = 4;
 
-/// Files by their names. What they hold is a relation of which a function over all folders knows nothing. So one that ensures it
+/// Files by their names. What they hold is a relation that a function over all folders knows nothing about. So one that ensures it
 /// has read the file.
 pub(crate) trait Folder {
-    /// What the file of a name may hold, or None where it can't be read.
+    /// What the file of a name may hold, or None if it can't be read.
     ghost holds: { Self → List ℕ → Option (List ℕ) → Type 0 };
 
-    /// The octets of a file.
+    /// The bytes of a file. Fails with [`StreamFault::Memory`] if an allocation fails, and with another fault if the file can't be read.
     fn octets(&self, name: &str) -> Result<Vec<u8>, StreamFault>
         ensures read { IfOk result (λ octets. holds self.now name.now (Some octets.items)) }
         ensures unread { IfErr result (λ fault. fault ≢ StreamFault.Memory → holds self.now name.now None) };
@@ -69,7 +69,7 @@ impl<'a, R: Files + AllocGlobal> Shelf for DeskFiles<'a, R> {
     }
 }
 
-/// Why a desk doesn't begin with its file.
+/// Why a desk can't be loaded from its file.
 #[derive(Clone, Copy)]
 enum LoadFault {
     Read,
@@ -77,16 +77,16 @@ enum LoadFault {
     NoMemory,
 }
 
-/// Why a stream is not served to its end.
+/// Why a stream was not served to its end.
 #[derive(Clone, Copy)]
 enum Unserved<'a> {
-    /// A desk doesn't begin with its file.
+    /// A desk can't be loaded from its file.
     Load { file: &'a str, fault: LoadFault },
-    /// The commands were not read, or a reply not written; or an allocation failed.
+    /// Commands could not be read, a reply could not be written, or an allocation failed.
     Stream(StreamFault),
 }
 
-/// Serves a stream of a reader, says why it was not served to its end, and gives the status.
+/// Serves a stream from a reader, says what ended it early, if anything did, and returns the exit status.
 pub(crate) fn stream<R: AllocGlobal + Eprint, F: Folder + Shelf, I: io::Read, W: io::Write>(
     rt: &R,
     folder: &mut F,
@@ -103,7 +103,8 @@ pub(crate) fn stream<R: AllocGlobal + Eprint, F: Folder + Shelf, I: io::Read, W:
     served(rt, done, why)
 }
 
-/// Serves a stream of a reader over desks that begin as it is asked for, in the window that is asked for.
+/// Serves a stream from a reader, over desks that begin as is asked for and in the window that is asked for. Returns whether any answer
+/// was a refusal.
 fn stream_on<'a, F: Folder + Shelf, I: io::Read, W: io::Write, S: itip_world::Watch>(
     alloc: Global,
     folder: &mut F,
@@ -129,7 +130,7 @@ fn stream_on<'a, F: Folder + Shelf, I: io::Read, W: io::Write, S: itip_world::Wa
     }
 }
 
-/// The desks of a stream as they begin.
+/// The desks of a stream as they begin. Fails at the first that doesn't.
 fn begun<'a, F: Folder>(
     alloc: Global,
     folder: &F,
@@ -153,7 +154,7 @@ fn begun<'a, F: Folder>(
     Ok(desks)
 }
 
-/// The desk of a number as it begins.
+/// The desk of this number as it begins.
 fn begin<'a, F: Folder>(
     alloc: Global,
     folder: &F,
@@ -172,7 +173,7 @@ fn begin<'a, F: Folder>(
     }
 }
 
-/// The file that is named for the desk of a number.
+/// The file that is named for the desk of this number, if one is.
 fn file_of<'a>(loads: &'a [Load], number: u64) -> Option<&'a str>
     ensures named { IfSome result (λ file. Contains (names_of loads.now) (number, file.now)) }
     ensures none { IfNone result ((file : List ℕ) → Contains (names_of loads.now) (number, file) → ⊥) }
@@ -185,7 +186,7 @@ fn file_of<'a>(loads: &'a [Load], number: u64) -> Option<&'a str>
     None
 }
 
-/// The desk of a file.
+/// The desk that a file tells.
 fn loaded<F: Folder>(alloc: Global, folder: &F, file: &str) -> Result<Desk, LoadFault>
     ensures told { IfOk result (λ desk. (octets : List ℕ) × F.holds folder.now file.now (Some octets) × TellsDesk octets desk) }
     ensures unread { IsErrOf result LoadFault.Read → F.holds folder.now file.now None }
@@ -203,7 +204,7 @@ fn loaded<F: Folder>(alloc: Global, folder: &F, file: &str) -> Result<Desk, Load
     }
 }
 
-/// Says why a stream was not served to its end, and gives the status.
+/// Says why a stream was not served to its end, if it wasn't, and returns the exit status.
 fn served<R: AllocGlobal + Eprint>(rt: &R, done: Result<bool, Unserved<'_>>, why: bool) -> u8
     ensures { result ≡ status_served done.entry }
 {
@@ -214,7 +215,7 @@ fn served<R: AllocGlobal + Eprint>(rt: &R, done: Result<bool, Unserved<'_>>, why
     }
 }
 
-/// Says why a desk doesn't begin with its file, and gives the status.
+/// Says why a desk can't be loaded from its file, and returns the exit status.
 fn complain_unloaded<R: AllocGlobal + Eprint>(rt: &R, file: &str, fault: LoadFault, why: bool) -> u8
     ensures { result ≡ status_unloaded fault }
 {

@@ -1,5 +1,5 @@
-//! What is said on standard error: what was refused, where and why, and how far the reading is. What can't be written there, or
-//! has no memory, is left out.
+//! What is said on standard error: what was refused, where and why, and how much has been read. What can't be written there, or has
+//! no memory, is left out.
 ghost use Rattle.std.specs.Prelude.{◌≡◌};
 
 use crate::filters::Named;
@@ -14,7 +14,7 @@ use itip_world::Refused;
 use std::alloc::{AllocError, Global};
 use std::fmt::Display;
 
-/// Names the refused messages of sources, and the to-do with the most rows where there are too many; and shows the progress.
+/// Names the refused messages of sources, and the to-do with the most rows if there are too many; and shows the progress of reading.
 #[derive(Drop)]
 pub(crate) struct Teller<'a, R> {
     rt: &'a R,
@@ -28,7 +28,7 @@ pub(crate) struct Teller<'a, R> {
     shown: Progress,
 }
 
-/// How many messages and octets of all sources were read.
+/// How many messages and bytes of all sources have been read.
 #[derive(Clone, Copy)]
 struct Progress {
     messages: u64,
@@ -40,11 +40,11 @@ const NO_PROGRESS: Progress = Progress {
     octets: 0,
 };
 
-// How many octets are read between two lines of progress: a folder of many small files has no line for each.
+// How many bytes are read before progress is shown again: a folder of many small files has no line for each.
 const SHARE: u64 = 1_048_576;
 
 impl<'a, R: AllocGlobal + Eprint> Teller<'a, R> {
-    /// `is_terminal` says whether standard error is one.
+    /// `is_terminal` says whether standard error is a terminal.
     pub(crate) fn new(
         rt: &'a R,
         named: &'a Named,
@@ -67,7 +67,7 @@ impl<'a, R: AllocGlobal + Eprint> Teller<'a, R> {
         self.named.at(self.opened)
     }
 
-    /// Shows how much was read, where that is asked for and more was read than was shown.
+    /// Shows how much has been read, if progress is shown at all and there is more than was shown last.
     pub(crate) fn show_progress(&mut self) {
         let Progress { messages, octets } = self.progress;
         if self.is_shown && (octets > self.shown.octets || messages > self.shown.messages) {
@@ -120,12 +120,12 @@ impl<'a, R: AllocGlobal + Eprint> itip_inbox::Watch for Teller<'a, R> {
     }
 }
 
-/// Says where and why something was refused, where that is asked for.
+/// Says where and why something was refused, if that is asked for.
 #[derive(Drop)]
 pub(crate) struct Explainer<'a, R> {
     rt: &'a R,
     is_asked: bool,
-    /// How many commands were answered.
+    /// How many commands have been answered.
     answered: u64,
 }
 
@@ -147,7 +147,7 @@ impl<'a, R: AllocGlobal + Eprint> Explainer<'a, R> {
         }
     }
 
-    /// Says which to-do has the most of too many rows.
+    /// Says which to-do has the most rows, if that is asked for.
     fn say_most(&self, name: &str, number: u64, most: &MostRows) {
         if self.is_asked {
             if let Ok(line) = self.line_of_most(name, number, most) {
@@ -216,20 +216,20 @@ impl<'a, R: AllocGlobal + Eprint> itip_office::Watch for Explainer<'a, R> {
     }
 }
 
-/// What is said of a list or a report that is refused for its rows: which to-do has the most.
+/// The line about a list or a report that is refused for too many rows: which to-do has the most.
 fn line_of_most(alloc: Global, asked: &str, most: &MostRows) -> Result<String, AllocError> {
     let number = Refusal::TooManyRows.number();
     most_line(alloc, asked, number, most.uid.as_str(), most.rows)
 }
 
-/// Names what a message should have (RFC 5546 3.4) and lacks.
+/// Warns of the properties that a message should have (RFC 5546 3.4) and lacks.
 pub(crate) fn warn<R: Eprint>(rt: &R, lacking: &[PropertyName]) {
     for property in lacking {
         let _ = eprintln!(rt; "warning: {property} is missing");
     }
 }
 
-/// Says under which number a message is refused that is to be written, and with `why` for what, and gives the status.
+/// Says with which number a draft or a message to be written is refused, and with `why` for what, and returns `status`.
 pub(crate) fn complain_refused<R: Eprint>(
     rt: &R,
     refusal: MessageRefusal,
@@ -247,7 +247,7 @@ pub(crate) fn complain_refused<R: Eprint>(
     status
 }
 
-/// Says what failed of something, and gives the status.
+/// Says what failed of the thing with this name, and returns `status`.
 pub(crate) fn complain_of<R: Eprint>(rt: &R, name: &str, what: &str, status: u8) -> u8
     ensures { result ≡ status }
 {
@@ -255,7 +255,7 @@ pub(crate) fn complain_of<R: Eprint>(rt: &R, name: &str, what: &str, status: u8)
     status
 }
 
-/// Says under which number the file of a desk is refused, and with `why` for what, and gives the status.
+/// Says with which number the file of a desk is refused, and with `why` for what, and returns `status`.
 pub(crate) fn complain_of_file<R: Eprint>(
     rt: &R,
     name: &str,
@@ -274,7 +274,7 @@ pub(crate) fn complain_of_file<R: Eprint>(
     status
 }
 
-/// Says why nothing is done, and gives the status. Where standard error takes no text, the status alone says what was wrong.
+/// Says what was wrong, and returns `status`. If standard error can't be written, the status alone says that something was.
 pub(crate) fn complain<R: Eprint, T: Display>(rt: &R, what: &T, status: u8) -> u8
     ensures { result ≡ status }
 {

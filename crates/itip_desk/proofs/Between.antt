@@ -1,6 +1,6 @@
--- Which entries lie between two bounds.
+-- Which entries are between two bounds.
 use Rattle.std.proofs.Common.{◌≡◌, ◌∙◌, ◌<◌, ◌||◌, ℕ, ℤ, ◌≤ℤ◌, ◌<ℤ◌, List, [], ◌∷◌, ◌++◌, map, refl, sym, ap, subst, inl, inr, Bool, true, false, cond}
-use Rattle.std.proofs.Common.{◌↔◌, not, ◌&&◌, arith, Option, Some, None, option_map, option_to_list}
+use Rattle.std.proofs.Common.{◌↔◌, not, ◌&&◌, arith, Option, Some, None, option_to_list}
 use Rattle.std.specs.List.{Contains, list_any}
 use Rattle.std.specs.Ordering.{nat_cmp, int_cmp, ordering_then, is_le, is_gt, is_eq, MatchOrdering}
 use Rattle.std.specs.Cmp.{tied_itself}
@@ -53,7 +53,7 @@ mapped f (y ∷ ys) x h = elim (cons_cases y ys x h) [
   | inr rest ↦ cons_later (f y) (map f ys) (f x) (mapped f ys x rest)
 ]
 
--- an entry that is there and lies between the bounds is found
+-- an entry that is there and is between the bounds is found
 pub found_between : {K : Type 0} (cmp : K → K → Ordering) → CmpEqualImpliesEq cmp → (set : BTreeSet K) (low high e : K) →
     contains cmp set e ≡ true → range_contains cmp (Included low) (Excluded high) e ≡ true →
     Contains (keys_between cmp (Included low) (Excluded high) set) e
@@ -66,7 +66,7 @@ both_ways true false p q = refl
 both_ways true true p q = cc
 both_ways false b p q = cc
 
--- ---- numbers of UIDs lie between the bounds
+-- ---- numbers of UIDs are between the bounds
 less_is : (m n : ℕ) → m < n → nat_cmp m n ≡ Less
 less_is m n below = elim (nat_cmp m n) as (λ o. nat_cmp m n ≡ o → o ≡ Less) [
   | Less ↦ λ e. refl
@@ -154,7 +154,7 @@ names_forward any n =
     ap (λ o. is_gt (ordering_then o (owner_cmp (record { uid = 0; item = any }) (record { uid = 4294967295; item = any }))))
     (same_number n) ∙ ap is_gt (bounds_forward any)
 
--- ---- what items give
+-- ---- the entries that items have
 days_rows : (k : Key) (item : Item) (days : RowDays) → days_at k item ≡ Some days → is_of_rows k ≡ true
 days_rows (Series uid) item days is = refl
 days_rows (Instance uid id) item days is = refl
@@ -214,7 +214,7 @@ found_named kept index address found is by_line uid n = subst (Contains found) n
           (line_given n.item n.names.line n.names.rows n.names.there);
     })))
 
--- an index of nothing has no entry
+-- an index of no items has no entries
 module _ (index : Index) (is : IsIndexOf [] index) where
   no_entry : (e : IndexEntry) → has index e ≡ true → ⊥
   no_entry e h = let n = (is e).0 h in none_in n.item n.there
@@ -259,7 +259,7 @@ module _ (kept : List Item) (window : Window) (uids : List (List ℕ)) (P : Row 
     λ shows. record { uid_is = found row.uid (row_needs_name kept address window row is shows); holds = (same row).1 shows },
   )
 
--- all rows, of which nothing more is asked
+-- all rows are asked for
 pub any_rows : (kept : List Item) (window : Window) (rows : List Row) → AreRowsWhere (λ row. Unit {0}) kept window rows ↔
     AreRows kept window rows
 any_rows kept window rows = (

@@ -86,7 +86,7 @@ carries changed since uid = at (value_at (slice_cmp nat_cmp) changed uid) refl
         (λ k. inl (t, e, above t k))
         (λ k. inr (λ c. not_above t c.0 (some_same t c.0 (sym e ∙ c.1)) k c.2))
 
--- all of a set that has what is kept, of the UIDs that moved, brings an older state up to date
+-- all items of the UIDs that moved, of a set that has what is kept, bring an older state up to date
 module _ (steps more : List (List Item)) (start : ℕ) (older newer : Shown) (whole part : List Item) (old : IsDeskOf steps start older)
     (new : IsDeskOf (steps ++ more) start newer)
     (covers : Covers whole (heard steps ++ heard more)) (same : (j : Item) → Contains part j ↔

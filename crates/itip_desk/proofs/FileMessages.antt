@@ -1,5 +1,5 @@
--- A message of the file of a desk is the canonical form of its item, in which two lines have parameters: it is read as that item, and
--- cut off what follows it.
+-- A message of the file of a desk is the canonical form of its item, with parameters of PRODID and VERSION: it is read as that item, and
+-- is cut from what follows it.
 use Rattle.std.proofs.Common.{◌≡◌, ◌∙◌, sym, ap, refl, subst, ℕ, ◌+◌, ◌-◌, ◌<◌, ◌≤◌, ◌^◌, Bool, true, false, cond, List, [], ◌∷◌, ◌++◌}
 use Rattle.std.proofs.Common.{length, map, drop, arith, append_assoc, append-nil, Option, Some, None}
 use Rattle.std.specs.Prelude.{IfSome, codes, nat_lt}
@@ -37,7 +37,7 @@ use Rattle.itip_desk.specs.FileReading.{IsHead}
 use Rattle.itip_desk.proofs.FileNumbers.{both_true, decimal_all, decimal_none, parameter_size}
 use Rattle.itip_desk.proofs.ReadDeltas.{others, lawful_front, concat_octets, none_more, end_of_todo, end_of_calendar}
 
--- ---- the parameters, as those of lines
+-- ---- the parameters as those of content lines
 
 abbrev number_param : List ℕ → ℕ → Param
 number_param name n = record { name = name; values = decimal n ∷ [] }
@@ -125,7 +125,7 @@ version_size (Some head) at is small =
     let moved : length (parameter_text (codes ";X-MOVED=") at) ≤ 9 + 20 = parameter_size (codes ";X-MOVED=") at small in
     omega (arith, tick, moved, length-append (parameter_text (codes ";X-TICK=") head.tick) (parameter_text (codes ";X-MOVED=") at))
 
--- an octet that begins no sequence of several
+-- a byte that doesn't begin a UTF-8 sequence of several
 abbrev low : ℕ → Bool
 low b = nat_lt b 192
 
@@ -161,7 +161,7 @@ no_fold used (b ∷ bs) h k =
     (low_fits used b p.0 (omega (arith, k)))
     ∙ ap (λ (t : List ℕ). b ∷ t) (no_fold (used + 1) bs p.1 (omega (arith, k)))
 
--- a short line with parameters is written as it stands
+-- a short line with parameters is written without folds
 short_line : (name : List ℕ) (params : List Param) (parameters value : List ℕ) → params_text params ≡ parameters →
     list_all low name ≡ true → list_all low parameters ≡ true → list_all low value ≡ true
     → length name + length parameters + length value ≤ 74
@@ -182,7 +182,7 @@ two_lines a p e b v r t = simp append_assoc
 in_row : (b p q v r t : List ℕ) → (((b ++ p) ++ q) ++ (v ++ r)) ++ t ≡ b ++ (p ++ (q ++ (v ++ (r ++ t))))
 in_row b p q v r t = simp append_assoc
 
--- the lines behind VERSION
+-- the lines after VERSION
 abbrev tail_of : Item → List ℕ
 tail_of item = contents_octets (method_line item.kind ∷ (bare (codes "BEGIN")
     (codes "VTODO") ∷ (parts_contents (parts_of item.todo) ++ ends)))
@@ -285,7 +285,7 @@ module _ (head : Option FileHead) (at : ℕ) (item : Item) (is : IfSome head IsH
       (reads_marked (product_params head) (version_params head at) product_lawful version_lawful item
       (omega (arith, short, ap length marked_octets)))
 
-  -- ---- and cut off what follows it
+  -- ---- and is cut from what follows it
 
   abbrev front : List Content
   front = (bare (codes "BEGIN") (codes "VCALENDAR") ∷ product (product_params head) ∷ version (version_params head at) ∷

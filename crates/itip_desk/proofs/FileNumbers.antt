@@ -1,4 +1,4 @@
--- Numbers in the file of a desk: what is written of one is read as it, and octets begin with one number.
+-- Numbers in the file of a desk: what is written of a number is read back as it, and bytes begin with one number only.
 use Rattle.std.proofs.Common.{◌≡◌, ◌∙◌, sym, ap, refl, ℕ, zero, suc, ◌+◌, ◌%◌, ◌<◌, ◌≤◌, ◌^◌, Bool, true, false, cond, ◌&&◌, ◌||◌}
 use Rattle.std.proofs.Common.{List, [], ◌∷◌, ◌++◌, length, get_or, take, drop, arith, subst, append_assoc, take-append-drop}
 use Rattle.std.proofs.Common.{Option, Some, None, MatchOption, IfSome, IfNone, Result, Ok, Err, ltb}
@@ -19,7 +19,7 @@ use Rattle.std.proofs.lemmas.Str.Parse.{IsDigitsTest, IsNumeralModel, numerals_b
 use Rattle.itip_desk.specs.DeskFile.{parameter_text, is_digit, digits_before, digits_value, HasNumber}
 use Rattle.itip_desk.specs.FileReading.{IsBehind, IsValue}
 
--- ---- what is true of the digits of a number
+-- ---- facts about the digits of a number
 
 pub both_true : (a b : Bool) → a ≡ true → b ≡ true → (a && b) ≡ true
 both_true true b e f = f
@@ -45,7 +45,7 @@ decimal_none p each = decimal_by_steps (λ n ds. list_any p ds ≡ false) (λ n 
     (λ n ds h before. list_any-append p ds ((48 + n % 10) ∷ []) ∙
     neither (list_any p ds) (list_any p ((48 + n % 10) ∷ [])) before (one_none p (48 + n % 10) (each (n % 10) (omega arith))))
 
--- a parameter has 20 digits at most behind its name
+-- a parameter has at most 20 digits after its name
 pub parameter_size : (name : List ℕ) (n : ℕ) → n < 2 ^ 64 → length (parameter_text name n) ≤ length name + 20
 parameter_size name n fits =
     let digits : length (decimal n) ≤ 20 = length-decimal-le 20 n (omega arith) (omega (arith, fits)) fits in
@@ -69,7 +69,7 @@ digits_test = record {
 pub own : IsNumeralModel (λ ds. list_all is_digit ds ≡ true) (digits_value 0)
 own = numerals_by_fold (λ ds. list_all is_digit ds ≡ true) digits_test digits_value (record { empty = λ n. refl; more = λ n c cs h. refl })
 
--- digits before what begins with none
+-- digits before bytes that begin with none
 pub all_before : (digits after : List ℕ) → list_all is_digit digits ≡ true → digits_before after ≡ 0 →
     digits_before (digits ++ after) ≡ length digits
 all_before [] after all stops = stops
@@ -77,7 +77,7 @@ all_before (b ∷ digits) after all stops =
     let p = and_parts (is_digit b) (list_all is_digit digits) all in
     ap (λ (t : Bool). cond t (suc (digits_before (digits ++ after))) 0) p.0 ∙ ap suc (all_before digits after p.1 stops)
 
--- what is written of a number is one, where no digit follows
+-- what is written of a number is read as one, if no digit follows
 pub has_number : (name after : List ℕ) (n : ℕ) → n < 2 ^ 64 → digits_before after ≡ 0 → HasNumber (name ++ (decimal n ++ after)) name n
     after
 has_number name after n fits stops = record {
@@ -112,7 +112,7 @@ one_number octets name m n after other a b =
     let parts = same_front a.digits b.digits after other lengths same in
     (a.value ∙ ap (digits_value 0) parts.0 ∙ sym b.value, parts.1)
 
--- what was written of two numbers is one text only where they are one
+-- two numbers are written as one text only if they are equal
 pub written_once : (name : List ℕ) (m n : ℕ) (after other : List ℕ) → m < 2 ^ 64 → n < 2 ^ 64 → digits_before after ≡ 0 →
     digits_before other ≡ 0 → name ++ (decimal m ++ after) ≡ name ++ (decimal n ++ other) → (m ≡ n) × (after ≡ other)
 written_once name m n after other m_fits n_fits stops ends same =
@@ -122,7 +122,7 @@ written_once name m n after other m_fits n_fits stops ends same =
 
 -- ---- no number
 
--- octets that differ at a place of the name begin with no number behind it
+-- bytes that differ from the name somewhere don't begin with it and a number
 pub differ_at : (at : ℕ) (octets name : List ℕ) (number : ℕ) (after : List ℕ) →
     ((more : List ℕ) → get_or octets at 0 ≡ get_or (name ++ more) at 0 → ⊥) → HasNumber octets name number after → ⊥
 differ_at at octets name number after differ h =
@@ -142,7 +142,7 @@ pub behind_written : (name after rest : List ℕ) (n : ℕ) → n < 2 ^ 64 → d
     IsBehind (name ++ (decimal n ++ after)) name rest → rest ≡ after
 behind_written name after rest n fits stops is = is.number n after (has_number name after n fits stops)
 
--- ---- the digits that octets begin with
+-- ---- the digits that bytes begin with
 
 pub before_within : (octets : List ℕ) → digits_before octets ≤ length octets
 before_within [] = omega arith
@@ -160,7 +160,7 @@ taken_digits (b ∷ octets) =
       | false ↦ λ e. refl
     ] refl
 
--- a number that is read of these digits
+-- a number that is read from these digits
 pub number_made : (octets name value : List ℕ) (number : ℕ) → octets ≡ name ++ value →
     IsValue (take (digits_before value) value) number → HasNumber octets name number (drop (digits_before value) value)
 number_made octets name value number whole is =
@@ -175,7 +175,7 @@ number_made octets name value number whole is =
       fits = is.fits;
     }
 
--- is the number that octets begin with
+-- is the number that the bytes begin with
 pub number_parts : (octets name value : List ℕ) (number : ℕ) (after : List ℕ) → octets ≡ name ++ value →
     HasNumber octets name number after → IsValue (take (digits_before value) value) number
 number_parts octets name value number after whole h =
@@ -199,7 +199,7 @@ if_none (Some x) P Q h = tt
 pub digits_utf8 : (ds : List ℕ) → list_all is_digit ds ≡ true → IsUtf8 ds
 digits_utf8 ds h = IsUtf8-from_ascii ds (IsAscii-from_digits ds (own.to ds h))
 
--- what is parsed of digits is their value
+-- what is parsed from digits is their value
 pub parsed_value : {E : Type 0} (ds : List ℕ) (number : ℕ) (r : Result ℕ E) → r ≡ Ok number → ParsesUnsigned 64 10 ds r →
     list_all is_digit ds ≡ true → IsValue ds number
 parsed_value {E} ds number (Ok n) is parses digits =
@@ -241,9 +241,9 @@ pub begins_not : (octets begins text : List ℕ) → begins ≡ text → ((rest 
     (rest : List ℕ) → octets ≡ text ++ rest → ⊥
 begins_not octets begins text is none rest cut = none rest (cut ∙ ap (λ (t : List ℕ). t ++ rest) (sym is))
 
--- ---- one name behind another
+-- ---- one name after another
 
--- a number behind two names is one behind the second, where the first stands
+-- a number after two names is one after the second, once the first is stripped
 pub behind_first : (octets first name rest : List ℕ) (number : ℕ) (after : List ℕ) → octets ≡ first ++ rest →
     HasNumber octets (first ++ name) number after → HasNumber rest name number after
 behind_first octets first name rest number after cut h = record {
@@ -269,7 +269,7 @@ with_first octets first name rest number after cut h = record {
 
 -- ---- how many digits there are
 
--- digits up to a place at which there is none
+-- digits up to a place that has none
 pub digits_at : (octets : List ℕ) (at : ℕ) → at < length octets → ((k : ℕ) → k < at → is_digit (get_or octets k 0) ≡ true) →
     is_digit (get_or octets at 0) ≡ false → at ≡ digits_before octets
 digits_at [] at within each stops = absurd (omega (arith, within))
@@ -278,7 +278,7 @@ digits_at (b ∷ octets) (suc at) within each stops =
     ap suc (digits_at octets at (omega arith) (λ k below. each (suc k) (omega arith)) stops)
     ∙ sym (ap (λ (t : Bool). cond t (suc (digits_before octets)) 0) (each 0 (omega arith)))
 
--- one digit more
+-- one more digit
 pub each_more : (octets : List ℕ) (i : ℕ) → ((k : ℕ) → k < i → is_digit (get_or octets k 0) ≡ true) →
     is_digit (get_or octets i 0) ≡ true → (k : ℕ) → k < i + 1 → is_digit (get_or octets k 0) ≡ true
 each_more octets i each more k below = elim (ltb k i) as (λ b. ltb k i ≡ b → is_digit (get_or octets k 0) ≡ true) [

@@ -1,4 +1,4 @@
--- The parameters of a message of a desk's file, as they are passed one after another.
+-- The parameters of a message of a desk's file, read one after another.
 use Rattle.std.proofs.Common.{◌≡◌, ◌∙◌, sym, ap, refl, ℕ, ◌<◌, ◌^◌, List, ◌++◌, drop, get_or, arith, append_assoc}
 use Rattle.std.proofs.Common.{Bor, Option, Some, None}
 use Rattle.std.proofs.lemmas.List.{append_cancel_left}
@@ -11,7 +11,7 @@ use Rattle.itip_desk.specs.DeskFile.{message_text, HasNumber}
 use Rattle.itip_desk.specs.FileReading.{IsBehind, IsHead, behind_product, FollowsProduct, TellsMove, first_text}
 use Rattle.itip_desk.proofs.FileNumbers.{has_number, one_number, written_once, differ_at, behind_same, behind_written}
 
--- what follows the parameters of PRODID up to those of VERSION, and what follows these
+-- what is between the parameters of PRODID and those of VERSION, and what follows these
 abbrev pub between : List ℕ
 between = codes ":-//itipdesk//1//EN\r\nVERSION"
 
@@ -159,7 +159,7 @@ module _ (text parameters a : List ℕ) (follows : FollowsProduct text (Some par
   no_move none head at bytes fits is same =
       absurd (none at (version_end ++ drop 57 bytes) (moved_there head at bytes fits is same))
 
--- ---- the tick behind the form
+-- ---- the tick after the form
 
 pub first_flat : (items tick : ℕ) (rest : List ℕ) →
     first_text items tick rest ≡ codes ";X-ITEMS=" ++ (decimal items ++ (between ++ (codes ";X-TICK=" ++ (decimal tick ++
@@ -177,12 +177,12 @@ tick_there after a is items tick rest fits same =
     behind_written (codes ";X-ITEMS=") t a items fits refl
     (behind_same after (codes ";X-ITEMS=" ++ (decimal items ++ t)) (codes ";X-ITEMS=") a (same ∙ first_flat items tick rest) is)
 
--- ---- two messages that are one text
+-- ---- two messages with one text
 
 fronts_differ : ◌≡◌ {A = ℕ} 58 59 → ⊥
 fronts_differ e = omega (arith, e)
 
--- behind the parameters of PRODID they are one text too
+-- after the parameters of PRODID they have one text too
 pub product_once : (h k : Option FileHead) → IfSome h IsHead → IfSome k IsHead → (s t : List ℕ) →
     product_parameters h ++ (between ++ s) ≡ product_parameters k ++ (between ++ t) → s ≡ t
 product_once None None is are s t same = append_cancel_left between s t same
@@ -196,7 +196,7 @@ product_once (Some h) (Some k) is are s t same =
     let items = written_once (codes ";X-ITEMS=") h.items k.items (between ++ s) (between ++ t) is.items are.items refl refl forms.1 in
     append_cancel_left between s t items.1
 
--- the first of them has a head where the first of the other has
+-- a message without a head and one with a head differ
 heads_alike : (h : FileHead) (s t : List ℕ) → product_parameters None ++ (between ++ s) ≡ product_parameters (Some h) ++ (between ++ t) → ⊥
 heads_alike h s t same = fronts_differ (ap (λ (xs : List ℕ). get_or xs 0 0) same)
 
@@ -217,7 +217,7 @@ version_more head at bytes s =
     grouped : (f d i e r t s : List ℕ) → (f ++ (d ++ (i ++ (e ++ (r ++ t))))) ++ s ≡ f ++ (d ++ (i ++ (e ++ (r ++ (t ++ s)))))
     grouped f d i e r t s = simp append_assoc
 
--- two first messages tell one tick
+-- two first messages with one text tell the same tick
 pub tick_once : (h k : FileHead) → IsHead h → IsHead k → (a b : ℕ) (x y s t : List ℕ) →
     message_text (Some h) a x ++ s ≡ message_text (Some k) b y ++ t → h.tick ≡ k.tick
 tick_once h k is are a b x y s t same =
@@ -228,7 +228,7 @@ tick_once h k is are a b x y s t same =
     (codes ";X-MOVED=" ++ (decimal b ++ (version_end ++ (drop 57 y ++ t)))) is.tick are.tick refl refl
     (sym (version_more h a x s) ∙ behind ∙ version_more k b y t)).0
 
--- a message is one of one move
+-- a message tells only one move
 pub moved_once : (h : Option FileHead) (a : ℕ) (x : List ℕ) → a < 2 ^ 64 → IfSome h IsHead → TellsMove (message_text h a x) (Some a)
 moved_once None a x fits is None b y less are same =
     let behind : behind_product None a x ≡ behind_product None b y =

@@ -49,7 +49,7 @@ abbrev pub file_texts : Carried → Option FileHead → List Item → List (List
 file_texts changed head [] = []
 file_texts changed head (item ∷ items) = message_text head (moved_at changed item) item.bytes ∷ file_texts changed None items
 
--- what they tell of moves
+-- what they tell about moves
 abbrev pub file_moves : Carried → List Item → Carried
 file_moves changed items = map (λ (item : Item). (uid_of item.key, moved_at changed item)) items
 
@@ -78,7 +78,7 @@ file_cut changed fit head is (item ∷ items) =
     (texts_begin changed None items)
     ∙ ap (λ (ts : List (List ℕ)). message_text head (moved_at changed item) item.bytes ∷ ts) (file_cut changed fit None tt items)
 
--- what is read of them is the items and the moves
+-- what is read from them is the items and the moves
 pub parts_are : (tick : ℕ) (changed : Carried) → Fit changed → (head : Option FileHead) → IfSome head IsHead → (items its : List Item)
     (moves : Carried) → ReadsParts tick (file_texts changed head items) its moves → (its ≡ items) × (moves ≡ file_moves changed items)
 parts_are tick changed fit head is [] its moves reads = reads
@@ -151,7 +151,7 @@ module _ (octets : List ℕ) (desk : Shown) (tells : TellsDesk octets desk) wher
   told_parts = subst (λ (ts : List (List ℕ)). ReadsParts desk.tick ts tells.file.items (file_moves desk.changed tells.file.items))
       (sym told_cut) (each_read (head_of desk.tick tells.file.items) is_head tells.file.items told_move)
 
-  -- and whatever is read of them is these
+  -- and only these can be read from them
   pub parts_told : (tick : ℕ) (its : List Item) (moves : Carried) → ReadsParts tick (messages_of octets) its moves →
       (its ≡ tells.file.items) × (moves ≡ file_moves desk.changed tells.file.items)
   parts_told tick its moves reads =
@@ -178,7 +178,7 @@ module _ (octets : List ℕ) (desk : Shown) (tells : TellsDesk octets desk) wher
       let move = told_move found.1 found.2 in
       not found.0 (moved_at desk.changed found.1) found.1 (moved_fits desk.changed fit found.1) move.0 move.1 found.3 found.4
 
-  -- a first message, where there is any
+  -- a first message, if there is any
   abbrev Begins : Type 0
   Begins = (item : Item) × (rest : List ℕ) × (octets ≡ message_text (head_of desk.tick tells.file.items) (moved_at desk.changed item)
       item.bytes ++ rest)
@@ -257,7 +257,7 @@ all_read octets rest parts so_far tick none = record {
       (so_far.read [] [] (subst (λ (ts : List (List ℕ)). ReadsParts parts.tick ts [] []) (sym none) (refl, refl))));
 }
 
--- a message that is none of a file refuses it
+-- a message that is not one of a file makes the bytes refused
 pub refuses_part : (octets rest message after : List ℕ) (tick : ℕ) (items : List Item) (moves : Carried) → FileSoFar octets rest tick
     items moves →
     TellsTick octets tick → CutsMessage rest message after → IsNoPart tick message → (number : Option ℕ) → RefusesFile octets
@@ -327,7 +327,7 @@ item_there changed (first ∷ items) uid tick h =
           (found.0, cons_later first items found.0 found.1, found.2, found.3)
     ]
 
--- where octets tell a desk, a UID moved at the tick that is read of them
+-- if bytes tell a desk, a UID moved at the tick that is read from them
 reaches : (octets : List ℕ) (parts : FileParts) → ReadsFile octets parts → (desk : Shown) → TellsDesk octets desk →
     ReachTick parts.tick parts.moves.items
 reaches octets parts reads desk tells some =
@@ -370,7 +370,7 @@ same_texts a b head (item ∷ items) same =
     (same_texts a b None items (λ other h. same other (cons_later item items other h)))
 
 module _ (octets : List ℕ) (parts : FileParts) (desk : Shown) (reads : ReadsFile octets parts) (made : IsDeskOfParts parts desk) where
-  -- where the octets are the file of a desk, they are the file of this one
+  -- if the bytes are the file of any desk, they are the file of this one
   pub same_file : (other : Shown) → TellsDesk octets other → IsFileOf desk octets
   same_file other tells =
       let items : List Item = tells.file.items in
@@ -405,7 +405,7 @@ module _ (octets : List ℕ) (parts : FileParts) (desk : Shown) (reads : ReadsFi
   pub not_file : (IsFileOf desk octets → ⊥) → (number : Option ℕ) → RefusesFile octets (Broken number)
   not_file not number = (reads.tick.this_form, λ other tells. not (same_file other tells))
 
-  -- and where they are, it is told whole
+  -- and if they are, it is told completely
   module _ (file : IsFileOf desk octets) (reach : ReachTick parts.tick parts.moves.items) where
     last_within : (uid : List ℕ) (tick : ℕ) → tick_at desk.changed uid ≡ Some tick → (0 < tick) × (tick ≤ parts.tick)
     last_within uid tick at =
@@ -552,7 +552,7 @@ module _ (octets : List ℕ) (a b : Shown) (tells : TellsDesk octets a) (also : 
     changed = one_change;
   }
 
--- what is alike sends the same
+-- desks that are alike have the same deltas
 pub alike_delta : (desk other : Shown) (since : ℕ) (delta : List Item) → AreAlike desk other → IsDeltaOf desk since delta →
     IsDeltaOf other since delta
 alike_delta desk other since delta are is = record {
@@ -564,7 +564,7 @@ alike_delta desk other since delta are is = record {
   );
 }
 
--- and is the desk of the same steps
+-- and are desks of the same steps
 pub alike_steps : (steps : List (List Item)) (start : ℕ) (desk other : Shown) → AreAlike desk other → IsDeskOf steps start desk →
     IsDeskOf steps start other
 alike_steps steps start desk other are is = record {
@@ -603,7 +603,7 @@ file_messages octets desk batch tells ascend same = record {
   });
 }
 
--- ---- a message that is none of a file
+-- ---- a message that is not one of a file
 
 pub no_move_part : (tick : ℕ) (text : List ℕ) → TellsMove text None → IsNoPart tick text
 no_move_part tick text tells head at item fits some within is same = none_some at (tells head at item.bytes fits is same)

@@ -22,7 +22,7 @@ not_empty head at bytes rest e = cc
 no_octets : (form : ℕ) (after : List ℕ) → HasNumber [] form_name form after → ⊥
 no_octets form after h = let e : [] ≡ form_name ++ (h.digits ++ after) = h.whole in cc
 
--- no octets tell tick 0
+-- the empty file tells tick 0
 pub nothing_told_tick : (octets : List ℕ) → octets ≡ [] → TellsTick octets 0
 nothing_told_tick octets none = record {
   empty = λ is. refl;
@@ -32,7 +32,7 @@ nothing_told_tick octets none = record {
       (subst (λ (o : List ℕ). HasNumber o form_name other.0 other.1.after) none other.1.named);
 }
 
--- what tells a desk names the form, and behind it the tick
+-- bytes that tell a desk name the form, and after it the tick
 abbrev Named : List ℕ → List ℕ → Type 0
 Named octets after = HasNumber octets form_name 1 after
 
@@ -51,7 +51,7 @@ first_named octets desk tells some = elim (empty_or_begins octets desk tells) [
   )
 ]
 
--- octets that name no form are refused
+-- bytes that name no form are refused
 pub no_form_named : (octets : List ℕ) → (octets ≡ [] → ⊥) → ((form : ℕ) (after : List ℕ) → HasNumber octets form_name form after → ⊥) →
     (number : Option ℕ) → RefusesFile octets (Broken number)
 no_form_named octets some none number = (
@@ -104,9 +104,9 @@ module _ (octets : List ℕ) (form : ℕ) (after : List ℕ) (named : HasNumber 
         none_some first.1 (sym none ∙ reads first.0 first.1 first.2 first.3 first.4 here),
   )
 
--- ---- behind the form
+-- ---- after the form
 
--- where the first message has no tick it is none of a file
+-- a first message without a tick is not one of a file
 module _ (after a : List ℕ) (behind : IsBehind after (codes ";X-ITEMS=") a) where
   pub tick_read : (parameters : List ℕ) (number : ℕ) (left : List ℕ) → a ≡ between ++ parameters →
       HasNumber parameters (codes ";X-TICK=") number left → (items tick : ℕ) (rest : List ℕ) → items < 2 ^ 64 → tick < 2 ^ 64 →

@@ -1,4 +1,4 @@
--- A desk that began with nothing is told whole by its file, and so is one that hears a batch more.
+-- A desk that began empty is told completely by its file, and so is one that hears one more batch.
 use Rattle.std.proofs.Common.{◌≡◌, ◌∙◌, sym, ap, refl, subst, ℕ, ◌+◌, ◌-◌, ◌<◌, ◌≤◌, ◌^◌, true, false, List, [], ◌∷◌, ◌++◌, arith}
 use Rattle.std.proofs.Common.{inl, inr, Option, Some, None}
 use Rattle.std.specs.Prelude.{◌⊎◌, nat_lt}
@@ -46,7 +46,7 @@ nothing_told desk none start unmoved =
       fits = omega (arith, start);
     }
 
--- ---- of each UID of which something was heard something is kept
+-- ---- if something was heard of a UID, something of it is kept
 
 pub some_kept : (heard : List Item) (item : Item) → Contains heard item →
     ((k : Item) → IsKept heard k → uid_of k.key ≡ uid_of item.key → ⊥) → ⊥
@@ -84,12 +84,12 @@ has_of (item ∷ items) uid = by_bool (is_eq (uid_cmp (uid_of item.key) uid)) (H
     differ : true ≡ false → ⊥
     differ e = cc
 
--- ---- a batch more
+-- ---- one more batch
 
 module _ (old new : Shown) (step : List Item) (told : IsTold old) (kept : AreKept new.kept (old.kept ++ step))
     (rises : TickStep old.kept step old.tick new.tick) (carried : IsCarriedOn old new step) (ticks : AreTicks new.changed)
     (fits : new.tick < 2 ^ 64) where
-  -- what is said of a UID holds where it does whether the UID moved or not
+  -- what leads to a contradiction whether a UID moved or not is contradictory
   either : (uid : List ℕ) → (KeepSame uid old.kept (old.kept ++ step) → ⊥) → (Moves old.kept step uid → ⊥) → ⊥
   either uid same moves = moves same
 
@@ -124,7 +124,7 @@ module _ (old new : Shown) (step : List Item) (told : IsTold old) (kept : AreKep
       not_below : nat_lt new.tick tick ≡ false → tick ≤ new.tick
       not_below e = grind (arith, nat_tests)
 
-  -- where nothing is kept of a UID now, nothing was
+  -- if nothing is kept of a UID now, nothing was kept before
   none_before : (uid : List ℕ) → (HasOf new.kept uid → ⊥) → HasOf old.kept uid → ⊥
   none_before uid none there =
       some_kept (old.kept ++ step) there.0 (Contains-append_left old.kept step there.0 there.1)
@@ -185,7 +185,7 @@ module _ (old new : Shown) (step : List Item) (told : IsTold old) (kept : AreKep
       by_step (inl up) = absurd (up.0.1 (stays up.0.0 (no_item up.0.0)))
       by_step (inr same) = same.1 ∙ told.empty (nothing old.kept refl)
 
-  -- a UID that carries a later tick than the one before the desk's carries that
+  -- a UID that carries a tick above the one before the desk's carries the desk's tick
   at_tick : (since : ℕ) (uid : List ℕ) → new.tick ≤ since + 1 → CarriesAfter new.changed since uid → tick_at new.changed uid ≡ Some new.tick
   at_tick since uid next carries =
       let within = within_tick uid carries.0 carries.1 in

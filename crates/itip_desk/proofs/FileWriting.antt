@@ -14,7 +14,7 @@ use Rattle.itip_desk.specs.declared.file_text.FileHead.{FileHead}
 use Rattle.itip_desk.proofs.ReadDeltas.{one_order}
 use Rattle.itip_desk.proofs.Ticking.{Carried}
 
--- items in their order are those of any file of the desk
+-- the file of a desk is the messages of its items in order
 pub one_file : (desk : Shown) (items : List Item) (octets : List ℕ) → IsItemsOf items desk.kept → IsFileOf desk octets →
     octets ≡ messages_text desk.changed (head_of desk.tick items) items
 one_file desk items octets are file =
@@ -32,7 +32,7 @@ pub head_seen : (tick : ℕ) (seen items given : List Item) → seen ≡ items �
     head ≡ head_of tick given → head_of tick seen ≡ head
 head_seen tick seen items given same also is = ap (λ (is : List Item). head_of tick is) (same ∙ sym also) ∙ sym is
 
--- the messages from one item on, of which the first has the head
+-- the messages from one item on, the first of them with the head
 module _ (changed : Carried) (items : List Item) (i : ℕ) (item : Item) (within : i < length items) (is : item ≡ get_or items i item)
     (head : Option FileHead) where
   pub next_message : messages_text changed head (drop i items) ≡ message_text head (moved_at changed item) item.bytes ++
@@ -49,7 +49,7 @@ no_message_left changed items i head past = at_drop_all (λ (its : List Item). m
 
 -- ---- writing
 
--- Some messages were written behind nothing, and the others are left.
+-- Some messages were written, and the others are left.
 pub record WritesSoFar (changed : Carried) (first head : Option FileHead) (items : List Item) (i : ℕ) (old new : Option (List ℕ))
     (kept : List ℕ) : Type 0 where
   pub done : List ℕ
@@ -66,7 +66,7 @@ none_written changed first items o kept none = record {
 
 module _ (changed : Carried) (first head : Option FileHead) (items : List Item) (i : ℕ) (old mid : Option (List ℕ)) (kept : List ℕ)
     (so_far : WritesSoFar changed first head items i old mid kept) where
-  -- a front of all is written, whatever happens to what is kept
+  -- a prefix of all is written, whatever happens to what is kept
   pub front_so_far : (new : Option (List ℕ)) → AppendsFront mid new kept → AppendsFront old new (messages_text changed first items)
   front_so_far new front =
       subst (λ (t : List ℕ). AppendsFront old new t) so_far.whole
@@ -85,7 +85,7 @@ module _ (changed : Carried) (first head : Option FileHead) (items : List Item) 
 
   module _ (item : Item) (within : i < length items) (is : item ≡ get_or items i item) (grown : List ℕ)
       (more : grown ≡ kept ++ message_text head (moved_at changed item) item.bytes) where
-    -- one message more is kept
+    -- one more message is kept
     pub one_kept : WritesSoFar changed first None items (i + 1) old mid grown
     one_kept = record {
       done = so_far.done ++ message_text head (moved_at changed item) item.bytes;
@@ -106,7 +106,7 @@ one_written changed first head items i old mid new kept left so_far moves = reco
 
 -- ---- comparing
 
--- These octets are the file of all where, and only where, the rest is that of the others.
+-- These bytes are the messages of all items if, and only if, the rest is those of the others.
 abbrev pub Completes : Carried → Option FileHead → Option FileHead → List Item → ℕ → List ℕ → List ℕ → Type 0
 Completes changed first head items i octets rest =
     (octets ≡ messages_text changed first items) ↔ (rest ≡ messages_text changed head (drop i items))
@@ -135,14 +135,14 @@ module _ (changed : Carried) (first head : Option FileHead) (items : List Item) 
     none_same none same =
         none (messages_text changed None (drop (i + 1) items)) (so_far.0 same ∙ next_message changed items i item within is head)
 
-  -- nothing is left to be compared
+  -- nothing is left to compare
   pub all_compared : length items ≤ i → (octets ≡ messages_text changed first items) ↔ (rest ≡ [])
   all_compared past = (
     λ same. so_far.0 same ∙ no_message_left changed items i head past,
     λ none. so_far.1 (none ∙ sym (no_message_left changed items i head past)),
   )
 
--- octets are the file of a desk where they are the messages of its items
+-- bytes are the file of a desk exactly if they are the messages of its items
 pub file_where : (desk : Shown) (items : List Item) (octets : List ℕ) → IsItemsOf items desk.kept → length items < 2 ^ 64 →
     (octets ≡ messages_text desk.changed (head_of desk.tick items) items) ↔ IsFileOf desk octets
 file_where desk items octets are few = (
@@ -162,7 +162,7 @@ pub on_err_then : {A E P Q : Type 0} (r : Result A E) → (P → Q) → OnErr r 
 on_err_then (Ok x) f p = tt
 on_err_then (Err e) f p = f p
 
--- three parts behind what was there
+-- three parts appended to what was there
 pub in_three : (old a b c one two new : List ℕ) → one ≡ old ++ a → two ≡ one ++ b → new ≡ two ++ c → new ≡ old ++ ((a ++ b) ++ c)
 in_three old a b c one two new first second third =
     third ∙ ap (λ (t : List ℕ). t ++ c) (second ∙ ap (λ (t : List ℕ). t ++ b) first)

@@ -1,4 +1,4 @@
--- Entries are gone through for the UIDs of their items.
+-- Going through entries for the UIDs of their items.
 use Rattle.std.proofs.Common.{◌≡◌, ◌⊎◌, ◌++◌, ◌∷◌, ◌∙◌, ℕ, List, [], ◌<◌, length, inl, inr, refl, sym, ap, subst, true, false, arith}
 use Rattle.std.specs.List.{Contains, list_any}
 use Rattle.std.specs.BTreeMap.{is_at}
@@ -10,7 +10,7 @@ use Rattle.itip_items.specs.declared.item.Item.{Item}
 use Rattle.itip_state.proofs.Members.{none_in, cons_cases}
 use Rattle.itip_desk.specs.Found.{AddsFound}
 
--- those of the entries that were passed are found
+-- the UIDs of the entries that were passed are found
 pub record FoundUpTo {E : Type 0} (item_of : E → Item) (P : Item → Type 0) (all : List E) (old now : List (List ℕ)) (rest : List E) : Type 0 where
   pub keeps : (uid : List ℕ) → Contains old uid → Contains now uid
   pub coming : (entry : E) → Contains all entry → P (item_of entry) → Contains now (uid_of (item_of entry).key) ⊎ Contains rest entry
@@ -69,7 +69,7 @@ nil_if (x ∷ xs) none = absurd (none (omega arith))
 pub not_nil : {A : Type 0} (xs : List A) → 0 < length xs → xs ≡ [] → ⊥
 not_nil xs some none = let e : length xs ≡ 0 = ap length none in omega (arith, e, some)
 
--- an empty set has no entry
+-- an empty set has no entries
 pub none_there : {K : Type 0} (cmp : K → K → Ordering) (set : BTreeSet K) (e : K) → set.keys ≡ [] → contains cmp set e ≡ true → ⊥
 none_there cmp set e none there =
     let x : false ≡ true = sym (ap (λ keys. list_any (is_at (cmp e)) keys) none) ∙ there in cc

@@ -1,4 +1,4 @@
--- The last move of each UID, of moves in their order.
+-- The last move of each UID in a list of moves.
 use Rattle.std.proofs.Common.{◌≡◌, ◌∙◌, sym, ap, refl, subst, ℕ, ◌<◌, ◌≤◌, ◌==◌, ◌||◌, Bool, true, false, List, []}
 use Rattle.std.proofs.Common.{◌∷◌, ◌++◌, append_assoc, append-nil, Option, Some, None, inl, inr, arith}
 use Rattle.std.specs.Prelude.{cond, is_some}
@@ -27,7 +27,7 @@ some_same t u e = cc
 none_some : (t : ℕ) → None ≡ Some t → ⊥
 none_some t e = cc
 
--- with one move more it is that of its UID
+-- one more move is the last of its UID
 pub last_more : (moves : Carried) (u : List ℕ) (tick : ℕ) (uid : List ℕ) →
     last_move (moves ++ (u, tick) ∷ []) uid ≡ cond (is_eq (uid_cmp u uid)) (Some tick) (last_move moves uid)
 last_more [] u tick uid = refl
@@ -37,7 +37,7 @@ last_more (move ∷ moves) u tick uid =
     (cond b (Some tick) (last_move moves uid)) (cond (is_eq (uid_cmp move.0 uid)) (Some move.1) None) ≡ cond b (Some tick)
     (last_move (move ∷ moves) uid)) [ true ↦ refl | false ↦ refl ]
 
--- it is one of the moves
+-- the last move is one of the moves
 pub last_in : (moves : Carried) (uid : List ℕ) (tick : ℕ) → last_move moves uid ≡ Some tick → (u : List ℕ) × Contains moves (u, tick) ×
     (u ≡ uid)
 last_in [] uid tick e = absurd (none_some tick e)
@@ -56,7 +56,7 @@ last_in (move ∷ moves) uid tick e = behind (last_move moves uid) refl (λ t is
         (move.0, subst (λ (t : ℕ). Contains (move ∷ moves) (move.0, t)) ticks (cons_first move moves), one_uid move.0 uid one))
         (λ other. absurd (none_some tick (sym (ap (λ (b : Bool). cond b (Some move.1) None) other) ∙ same)))
 
--- and there is one where a move is of the UID
+-- and there is one if a move is of the UID
 pub last_there : (moves : Carried) (uid : List ℕ) (tick : ℕ) → Contains moves (uid, tick) → (t : ℕ) × (last_move moves uid ≡ Some t)
 last_there [] uid tick h = absurd (none_in (uid, tick) h)
 last_there (move ∷ moves) uid tick h = behind (last_move moves uid) refl (λ later. last_there moves uid tick later)
@@ -77,7 +77,7 @@ last_there (move ∷ moves) uid tick h = behind (last_move moves uid) refl (λ l
           absurd (none_some found.0 (sym is ∙ found.1))
     ]
 
--- ---- what each UID carries, where the moves are put in one after another
+-- ---- what each UID carries when the moves are added one after another
 
 pub none_put : (carried : Carried) → carried ≡ [] → CarriesLast [] carried
 none_put carried none uid = ap (λ (es : Carried). tick_at es uid) none
@@ -87,7 +87,7 @@ pub one_put : (moves : Carried) (u : List ℕ) (tick : ℕ) (was now : Carried) 
 one_put moves u tick was now carries put uid =
     put uid ∙ ap (λ (o : Option ℕ). cond (is_eq (uid_cmp u uid)) (Some tick) o) (carries uid) ∙ sym (last_more moves u tick uid)
 
--- each stands in order
+-- each is in order
 pub put_in_order : (u : List ℕ) (tick : ℕ) (was now : Carried) (order order' : BTreeSet (ℕ × List ℕ)) → AreInOrder was order.keys →
     Updates move_cmp order order' (tick, u) true →
     ((q : List ℕ) → tick_at now q ≡ cond (is_eq (uid_cmp u q)) (Some tick) (tick_at was q)) → AreInOrder now order'.keys
@@ -118,7 +118,7 @@ last_up_to top moves carried are carries uid tick there =
     let found = last_in moves uid tick (sym (carries uid) ∙ there) in
     (All-contains (λ (move : List ℕ × ℕ). (0 < move.1) × (move.1 ≤ top)) moves (found.0, tick) are found.1).1
 
--- Some of these moves were put in, and others are left.
+-- Some of these moves were added, and others are left.
 pub record PutSoFar (all left carried : Carried) : Type 0 where
   pub done : Carried
   pub whole : all ≡ done ++ left

@@ -1,4 +1,4 @@
--- The text of a list behind its head.
+-- The text of a list after its head.
 use Rattle.std.proofs.Common.{◌≡◌, ℕ, List, [], ◌∷◌, ◌++◌, append_assoc, length, Result, Ok, Err, IfOk}
 use Rattle.std.specs.Fmt.{decimal}
 use Rattle.std.specs.Prelude.{codes}
@@ -6,7 +6,7 @@ use Rattle.itip_view.specs.ListText.{list_text}
 use Rattle.itip_view.specs.declared.row.Row.{Row}
 use Rattle.itip_desk.specs.Listed.{head_text, headed_text}
 
--- two facts of one result
+-- two facts about one result
 pub if_ok_both : {A E : Type 0} (P Q R : A → Type 0) (r : Result A E) → ((a : A) → P a → Q a → R a) → IfOk r P → IfOk r Q → IfOk r R
 if_ok_both P Q R (Ok a) f p q = f a p q
 if_ok_both P Q R (Err e) f p q = tt

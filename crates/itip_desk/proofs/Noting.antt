@@ -94,7 +94,7 @@ module _ (old new : Index) where
   name_out k days updates (inl e) = days_same days e ∙ sym (and_not_none (has old (inl e)))
   name_out k days updates (inr e) = set_out name_cmp name_total old.names new.names k updates e
 
--- one step of taking out
+-- one entry is removed
 pub shrinks : (i n r x : Bool) → n ≡ (i && not x) → (n && not r) ≡ (i && not (x || r))
 shrinks i n r x is = ap (λ b. b && not r) is ∙ cases i x r
   where
@@ -103,7 +103,7 @@ shrinks i n r x is = ap (λ b. b && not r) is ∙ cases i x r
     cases true false r = refl
     cases false x r = refl
 
--- one step of putting in
+-- one entry is added
 pub grows : (i n r x : Bool) → n ≡ (i || x) → (n || r) ≡ (i || (x || r))
 grows i n r x is = ap (λ b. b || r) is ∙ cases i x r
   where
@@ -124,7 +124,7 @@ module _ (item : Item) (e : IndexEntry) where
   entries_in rows = ap (λ b. is_in (cond b (day_entries item ++ line_entries item item.todo.attendees) []) e) rows
       ∙ list_any-append (same_entry e) (day_entries item) (line_entries item item.todo.attendees)
 
-  -- another has none
+  -- any other item has none
   pub entries_none : has_rows item ≡ false → is_in (entries_of item) e ≡ false
   entries_none rows = ap (λ b. is_in (cond b (day_entries item ++ line_entries item item.todo.attendees) []) e) rows
 
@@ -162,7 +162,7 @@ module _ (item : Item) (e : IndexEntry) (lines : List Property) (i : ℕ) where
   both_parts xs ys = ap (λ es. is_in es e) (map-append (line_entry item) xs ys)
       ∙ list_any-append (same_entry e) (line_entries item xs) (line_entries item ys)
 
-  -- with one line more
+  -- with one more line
   pub line_more : (line : Property) → i < length lines → line ≡ get_or lines i line →
       is_in (line_entries item (take (i + 1) lines)) e ≡ (is_in (line_entries item (take i lines)) e || same_entry e (line_entry item line))
   line_more line below is =
@@ -170,12 +170,12 @@ module _ (item : Item) (e : IndexEntry) (lines : List Property) (i : ℕ) where
       (take_more lines i line below ∙ ap (λ (x : Property). take i lines ++ x ∷ []) (sym is)) ∙ both_parts (take i lines) (line ∷ []) ∙
       ap (λ b. is_in (line_entries item (take i lines)) e || b) (or_none (same_entry e (line_entry item line)))
 
-  -- those of the first lines are among all
+  -- the entries of the first lines are among those of all
   pub line_part : is_in (line_entries item (take i lines)) e ≡ true → is_in (line_entries item lines) e ≡ true
   line_part h = ap (λ ls. is_in (line_entries item ls) e) (sym (take-append-drop i lines)) ∙ both_parts (take i lines) (drop i lines) ∙
       ap (λ b. b || is_in (line_entries item (drop i lines)) e) h
 
--- ---- on the way an index is between what it was and what it becomes
+-- ---- while entries are added, an index is between what it was and what it becomes
 or_cases : (a b : Bool) (G : Type 0) → (a ≡ true → G) → (b ≡ true → G) → (a || b) ≡ true → G
 or_cases true b G p q h = p refl
 or_cases false b G p q h = q h
@@ -191,7 +191,7 @@ or_second false b e = e
 pub widens_same : (more : IndexEntry → Bool) (old new : Index) → ((e : IndexEntry) → has new e ≡ has old e) → Widens more old new
 widens_same more old new same e = (λ h. same e ∙ h, λ h. or_first (has old e) (more e) (sym (same e) ∙ h))
 
--- some of the entries were put in
+-- some of the entries were added
 pub widens_part : (more some : IndexEntry → Bool) (old new : Index) → ((e : IndexEntry) → has new e ≡ (has old e || some e)) →
     ((e : IndexEntry) → some e ≡ true → more e ≡ true) → Widens more old new
 widens_part more some old new is part e = (
@@ -200,7 +200,7 @@ widens_part more some old new is part e = (
       (λ s. or_second (has old e) (more e) (part e s)) (sym (is e) ∙ h),
 )
 
--- some were put in, and then perhaps others
+-- some were added, and then perhaps others
 pub widens_twice : (first second all : IndexEntry → Bool) (old mid new : Index) →
     ((e : IndexEntry) → has mid e ≡ (has old e || first e)) → Widens second mid new → ((e : IndexEntry) → all e ≡ (first e || second e)) →
     Widens all old new

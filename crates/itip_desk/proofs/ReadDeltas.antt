@@ -152,7 +152,7 @@ written_read batch ascend = record {
       (record { ascend = ascend; same = λ item. (λ h. h, λ h. h) });
 }
 
--- octets that are those of a batch are read as this batch
+-- bytes that are those of a batch are read as this batch
 pub written_so : (bytes : List ℕ) (batch : List Item) → AscendOctets batch → bytes ≡ delta_octets batch → ReadsDelta bytes batch
 written_so bytes batch ascend is = subst (λ (t : List ℕ). ReadsDelta t batch) (sym is) (written_read batch ascend)
 
@@ -161,7 +161,7 @@ written_so bytes batch ascend is = subst (λ (t : List ℕ). ReadsDelta t batch)
 octets_apart : (a b : Item) → slice_cmp nat_cmp a.bytes b.bytes ≡ Less → slice_cmp nat_cmp b.bytes a.bytes ≡ Less → ⊥
 octets_apart a b = less_one_way nat_list_cmp_total a.bytes b.bytes
 
--- items by octets, each once, are known by what they are
+-- two lists of the same items, sorted by bytes, each once, are equal
 pub one_order : (a b : List Item) → AscendOctets a → AscendOctets b → SameItems a b → a ≡ b
 one_order a b up_a up_b same =
     same_ascending (λ (x y : Item). slice_cmp nat_cmp x.bytes y.bytes ≡ Less) octets_apart a b up_a up_b
@@ -208,7 +208,7 @@ delta_apart bytes batch f h k =
     apart_from h.messages h.given f h.read (subst (λ (ts : List (List ℕ)). FirstRefused ts f)
     (one_cut bytes k.messages h.messages k.cut h.cut) k.first)
 
--- a batch is known by its octets
+-- batches with equal bytes are equal
 pub known_by_octets : (a b : List Item) → AscendOctets a → AscendOctets b → delta_octets a ≡ delta_octets b → a ≡ b
 known_by_octets a b up_a up_b same =
     one_batch (delta_octets b) a b (subst (λ (t : List ℕ). ReadsDelta t a) same (written_read a up_a)) (written_read b up_b)
@@ -241,7 +241,7 @@ refuses_here bytes rest message after items fault so_far cut refuses = record {
   first = so_far.refused fault (subst (λ (ts : List (List ℕ)). FirstRefused ts fault) (sym cut.messages) (inl refuses));
 }
 
--- where a message is refused for a fault, so are the octets
+-- if a message is refused for a fault, so are all the bytes
 pub refuses_if : (e : ReadError) (bytes rest message after : List ℕ) (items : List Item) → Continues bytes rest items →
     CutsMessage rest message after → IfRefused e (RefusesMessage message) → IfRefused e (RefusesDelta bytes)
 refuses_if error.NoMemory bytes rest message after items so_far cut refuses = tt

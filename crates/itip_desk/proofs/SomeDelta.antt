@@ -1,4 +1,4 @@
--- Octets are read as a batch, or they are refused.
+-- Bytes are read as a batch, or they are refused.
 use Rattle.std.proofs.Common.{ℕ, List, [], ◌∷◌, inl, inr, ◌⊎◌}
 use Rattle.std.proofs.lemmas.Map.Keys.{Less-from_sorted}
 use Rattle.std.proofs.lemmas.Map.Lookups.{CmpEqualImpliesEq, exact_bytes}
@@ -16,7 +16,7 @@ use Rattle.itip_message.proofs.Cuts.{cut_by_scan}
 octets_exact : CmpEqualImpliesEq octets_cmp
 octets_exact i j e = same_item i j (exact_bytes i.bytes j.bytes e)
 
--- the items of a list by octets, each once
+-- the items of a list, sorted by bytes, each once
 batch_of : (items : List Item) → (batch : List Item) × IsItemsOf batch items
 batch_of items =
     let ordered : IsInOrder octets_cmp items = in_order octets_cmp octets_total octets_exact items in (

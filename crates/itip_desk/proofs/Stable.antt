@@ -1,4 +1,4 @@
--- Whether a desk is that of some steps can be told, so where it is merely said to be one it is.
+-- Whether a desk is that of some steps is decidable, so a desk that merely is one (∥ ∥₁) is one.
 use Rattle.std.proofs.Common.{◌≡◌, ℕ, ◌+◌, ◌<◌, List, [], ◌∷◌, ◌++◌, ◌↔◌, ◌⊎◌, inl, inr, refl, sym, subst, ◌∙◌, arith, true, false, nat_lt}
 use Rattle.std.specs.List.{Contains}
 use Rattle.std.specs.Coded.{coded_ℕ}
@@ -23,7 +23,7 @@ told_same x y i = elim (told_kept x i) [
   | inr none ↦ elim (told_kept y i) [ inl b ↦ inr (λ same. none (same.1 b)) | inr not ↦ inl (λ k. absurd (none k), λ k. absurd (not k)) ]
 ]
 
--- two sets keep another item of a UID, or the same of these
+-- two sets don't keep the same items of a UID, or they keep the same ones among these
 differ_in : (uid : List ℕ) (x y among : List Item) → (¬ KeepSame uid x y) ⊎
     ((i : Item) → Contains among i → uid_of i.key ≡ uid → IsKept x i ↔ IsKept y i)
 differ_in uid x y [] = inr (λ i h about. absurd (none_in i h))

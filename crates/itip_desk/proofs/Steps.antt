@@ -16,7 +16,7 @@ pub heard-append : (steps : List (List Item)) (step : List Item) → heard (step
 heard-append [] step = append-nil step
 heard-append (first ∷ steps) step = ap (λ rest. first ++ rest) (heard-append steps step) ∙ sym (append_assoc first (heard steps) step)
 
--- what a step adds to what was heard it adds to what was kept of that
+-- a step changes what is kept of a UID beside what was kept exactly if it does beside all that was heard
 pub keep_same_up : (uid : List ℕ) (kept all step : List Item) → AreKept kept all → KeepSame uid kept (kept ++ step) →
     KeepSame uid all (all ++ step)
 keep_same_up uid kept all step are same item about =
@@ -80,7 +80,7 @@ moved_below before tick (step ∷ steps) last since uid (mid, one, rest) (next, 
     moved_below (before ++ step) mid steps last since uid rest
     (subst (λ (t : ℕ). MovedAfter (before ++ step) t steps since uid) (tick_once before step tick next mid two one) later)
 
--- one more step moves what it moves after all that was heard
+-- with one more step, the UIDs that moved are those that moved before and those that this step moves
 module _ (step : List Item) (last next since : ℕ) (uid : List ℕ) where
   pub moved_up : (before : List Item) (tick : ℕ) (steps : List (List Item)) → Ticks before tick steps last →
       TickStep (before ++ heard steps) step last next
@@ -164,13 +164,13 @@ one_more_step steps start old new step kept tick carry is = record {
     moves_up : (uid : List ℕ) → Moves old.kept step uid → Moves (heard steps) step uid
     moves_up uid moves same = moves (keep_same_down uid old.kept (heard steps) step is.kept same)
 
--- where nothing moves nothing else carries a tick
+-- if nothing moves, no UID carries another tick
 pub still_carry : (desk : Shown) (step : List Item) → ((uid : List ℕ) → KeepSame uid desk.kept (desk.kept ++ step)) →
     CarryStep desk desk step
 still_carry desk step same =
     record { up = λ since uid c. inl c; moved = λ since uid moves above. absurd (moves (same uid)); stays = λ since uid c above. c }
 
--- What a step moves is what a part of it moves with which is kept what is kept with the step.
+-- A step moves what a part of it moves, if with the part is kept what is kept with the step.
 pub moved_alike : (uids : List (List ℕ)) (before part step : List Item) →
     ((item : Item) → IsKept (before ++ part) item ↔ IsKept (before ++ step) item) → AreMoved uids before part → AreMoved uids before step
 moved_alike uids before part step alike moved = record {
@@ -197,18 +197,18 @@ pub moved_whole : (uids : List (List ℕ)) (before part step : List Item) → Ar
 moved_whole uids before part step are =
     moved_alike uids before part step (kept_of_parts before step before part (covers_itself before) (covers_kept part step are))
 
--- where a step moves no UID, what was kept is what is kept with it
+-- if a step moves no UID, what was kept is what is kept with it
 pub none_moved : (before step : List Item) → AreKept before before → ((uid : List ℕ) → KeepSame uid before (before ++ step)) →
     AreKept before (before ++ step)
 none_moved before step are same = are_kept_by before before (before ++ step) (λ item. same (uid_of item.key) item refl) are
 
--- of no UID it can't be told otherwise that it moved
+-- a step that moves UIDs moves the first of them
 pub some_moved : (uids : List (List ℕ)) (before step : List Item) → AreMoved uids before step → ¬ (length uids ≡ 0) → (uid : List ℕ) ×
     Moves before step uid
 some_moved [] before step moved some = absurd (some refl)
 some_moved (uid ∷ uids) before step moved some = (uid, moved.each uid (Contains-append_left (uid ∷ []) uids uid (Contains-push [] uid)))
 
--- a step that moves none of these UIDs, which are all that it moves
+-- a step whose list of moved UIDs is empty moves no UID
 pub none_in : (uids : List (List ℕ)) (before step : List Item) → AreMoved uids before step → length uids ≡ 0 → (uid : List ℕ) →
     KeepSame uid before (before ++ step)
 none_in uids before step moved none uid = moved.others uid (λ h. omega (arith, h.1))
@@ -223,7 +223,7 @@ nothing_more steps start desk is =
     (λ h. again.1 ((is.kept item).0 h), λ k. (is.kept item).1 (again.0 k)) in
     one_more_step steps start desk desk [] (none_moved desk.kept [] state same) (inr (same, refl)) (still_carry desk [] same) is
 
--- what a step moves of what was kept it moves of all that was heard
+-- what a step moves after what was kept, it moves after all that was heard
 pub moved_of_all : (uids : List (List ℕ)) (kept all step : List Item) → AreKept kept all → AreMoved uids kept step → AreMoved uids all step
 moved_of_all uids kept all step are moved = record {
   ascend = moved.ascend;

@@ -60,7 +60,7 @@ or_true false = refl
 listed_push : (us : List (List ℕ)) (u q : List ℕ) → is_listed (us ++ u ∷ []) q ≡ (is_listed us q || (is_eq (uid_cmp u q) || false))
 listed_push us u q = list_any-append (λ x. is_eq (uid_cmp x q)) us (u ∷ [])
 
--- with one UID more, another is listed if it was before
+-- with one more UID, another is listed if it was before
 pub listed_before : (us now : List (List ℕ)) (u q : List ℕ) → now ≡ us ++ u ∷ [] → is_eq (uid_cmp u q) ≡ false → is_listed now q ≡ is_listed us q
 listed_before us now u q more apart = ap (λ xs. is_listed xs q) more ∙ listed_push us u q ∙ ap (λ b. is_listed us q || (b || false)) apart ∙
     or_false (is_listed us q)
@@ -69,7 +69,7 @@ pub listed_here : (us now : List (List ℕ)) (u q : List ℕ) → now ≡ us ++ 
 listed_here us now u q more same = ap (λ xs. is_listed xs q) more ∙ listed_push us u q ∙ ap (λ b. is_listed us q || (b || false)) same ∙
     or_true (is_listed us q)
 
--- with one UID more, what holds of the others and of it holds of all
+-- with one more UID, what holds for the others and for it holds for all
 pub listed_all : (P : List ℕ → Type 0) (us now : List (List ℕ)) (u : List ℕ) → now ≡ us ++ u ∷ [] → P u →
     ((q : List ℕ) → is_listed us q ≡ true → P q) → (q : List ℕ) → is_listed now q ≡ true → P q
 listed_all P us now u more here each q h = by_bool (is_eq (uid_cmp u q)) (P q)
@@ -132,7 +132,7 @@ module _ (all : List (List ℕ)) (u : List ℕ) (was now next : Carried) (listed
       (λ same. ap is_some (put q ∙ ap (λ b. cond b (Some 0) (tick_at now q)) same))
       (λ apart. ap is_some (put q ∙ ap (λ b. cond b (Some 0) (tick_at now q)) apart) ∙ h)
 
--- one is taken out
+-- one is removed
 pub fewer_one : (u : List ℕ) (was now next : Carried) →
     ((q : List ℕ) → tick_at next q ≡ cond (is_eq (uid_cmp u q)) None (tick_at now q)) →
     ((q : List ℕ) → (tick_at now q ≡ tick_at was q) ⊎ (tick_at now q ≡ None)) →
@@ -146,7 +146,7 @@ fewer_one u was now next out fewer q = by_bool (is_eq (uid_cmp u q)) ((tick_at n
       | inr none ↦ inr (stays ∙ none)
     ])
 
--- places are taken out: those of the UIDs that are still to come may be there
+-- places are removed: those of the UIDs that are still to come may be there
 pub record PlacesLeft (all done : List (List ℕ)) (was now : Carried) : Type 0 where
   pub places : HavePlaces all was now
   pub out : (uid : List ℕ) → is_listed done uid ≡ true → tick_at now uid ≡ tick_at was uid
@@ -202,7 +202,7 @@ places_out all was now sorted sorted_now left = entries_from_values nat_list_cmp
     (λ q. elim (left.places q) [ inl is ↦ is | inr place ↦ left.out q place.0 ])
 
 -- ---- marks
--- the UIDs gone over so far carry the tick, and each stands in order
+-- the UIDs gone through so far carry the tick, and each is in order
 pub record AreMarked (tick : ℕ) (all uids : List (List ℕ)) (was now : Carried) (order : List (ℕ × List ℕ)) : Type 0 where
   pub at : (q : List ℕ) → tick_at now q ≡ cond (is_listed uids q) (Some tick) (tick_at was q)
   pub in_order : AreInOrder now order
@@ -245,7 +245,7 @@ module _ (tick : ℕ) (all us now_us : List (List ℕ)) (u : List ℕ) (was now 
       differ e = cc
 
 -- ---- what moved after a tick
--- of the moves in order those gone over were found, if a UID carries them; the others are to come
+-- of the moves in order, those gone through were found, if a UID carries them; the others are to come
 pub record FoundSoFar (carried : Carried) (since : ℕ) (uids : List (List ℕ)) (rest : List (ℕ × List ℕ)) : Type 0 where
   pub among : (uid : List ℕ) → Contains uids uid → CarriesAfter carried since uid
   pub coming : (uid : List ℕ) (tick : ℕ) → tick_at carried uid ≡ Some tick → since < tick → Contains uids uid ⊎ Contains rest (tick, uid)
@@ -329,7 +329,7 @@ carries_still uids es placed have since uid c = elim (have uid) [
   | inr place ↦ absurd (none_some c.0 (sym place.1 ∙ c.1))
 ]
 
--- with marks above 0 there are no places
+-- if the marks are above 0, there are no places
 pub marked_ticks : (uids : List (List ℕ)) (es placed gs : Carried) (next : ℕ) → 0 < next → AreTicks es → HavePlaces uids es placed →
     ((uid : List ℕ) → tick_at gs uid ≡ cond (is_listed uids uid) (Some next) (tick_at placed uid)) → AreTicks gs
 marked_ticks uids es placed gs next above ticks have marked uid t there = by_bool (is_listed uids uid) (0 < t)
@@ -346,7 +346,7 @@ marked_ticks uids es placed gs next above ticks have marked uid t there = by_boo
     differ : true ≡ false → ⊥
     differ e = cc
 
--- with marks at this tick none is above it
+-- if the marks are at this tick, none is above it
 pub marked_up_to : (uids : List (List ℕ)) (es placed gs : Carried) (top next : ℕ) → top ≤ next → AreUpTo top es → HavePlaces uids es placed →
     ((uid : List ℕ) → tick_at gs uid ≡ cond (is_listed uids uid) (Some next) (tick_at placed uid)) → AreUpTo next gs
 marked_up_to uids es placed gs top next up ticks have marked uid t there = by_bool (is_listed uids uid) (t ≤ next)
@@ -418,7 +418,7 @@ module _ (uids : List (List ℕ)) (es placed gs : Carried) (have : HavePlaces ui
           (λ k. (others_carry since uid k).1 c);
     }
 
--- where nothing moves each UID carries what it did
+-- if nothing moves, each UID carries what it did
 pub nothing_carried : (desk : Shown) (step : List Item) → ((uid : List ℕ) → KeepSame uid desk.kept (desk.kept ++ step)) →
     IsCarriedOn desk desk step
 nothing_carried desk step same = record { moved = λ since uid moves. absurd (moves (same uid)); others = λ since uid _. (λ c. c, λ c. c) }

@@ -1,4 +1,4 @@
--- Whether an item is kept can be told, so two sets that it can't be told apart that they keep the same do keep the same.
+-- Whether an item is kept is decidable, so two sets keep the same if it can't be refuted that they do.
 use Rattle.std.proofs.Common.{◌≡◌, ℕ, List, [], ◌∷◌, ◌↔◌, ◌⊎◌, inl, inr, sym, ap, subst, ◌∙◌, true, false}
 use Rattle.std.specs.List.{Contains}
 use Rattle.itip_items.specs.KeyParts.{uid_of}

@@ -1,6 +1,6 @@
 -- The index after a hearing.
 use Rattle.std.proofs.Common.{◌≡◌, ◌∙◌, ◌⊎◌, inl, inr, ℕ, List, [], ◌∷◌, ◌++◌, map, refl, sym, ap, subst, Bool, true, false, ◌||◌}
-use Rattle.std.proofs.Common.{◌&&◌, not, cond, Some, Result, Ok, Err, OnOk, OnErr, ◌+◌, ◌<◌, ◌≤◌, length, take, take_all}
+use Rattle.std.proofs.Common.{◌&&◌, not, cond, Result, Ok, Err, OnOk, OnErr, ◌+◌, ◌<◌, ◌≤◌, length, take, take_all}
 use Rattle.std.proofs.Common.{get_or, option_to_list}
 use Rattle.std.specs.List.{Contains}
 use Rattle.std.specs.Ordering.{is_eq}
@@ -42,7 +42,7 @@ finds_in (x ∷ es) e h = elim (cons_cases x es e h) [
       (λ other. ap (λ b. b || is_in es e) other ∙ finds_in es e rest)
 ]
 
--- ---- an entry tells the item that gives it
+-- ---- an entry tells the item that has it
 of_map : {A : Type 0} (item : Item) (f : A → IndexEntry) → ((x : A) → item_of (f x) ≡ item) → (xs : List A) (e : IndexEntry) →
     Contains (map f xs) e → item_of e ≡ item
 of_map item f gives [] e h = absurd (none_in e h)
@@ -68,12 +68,12 @@ entry_rows item e h = by_bool (is_of_rows item.key) (is_of_rows item.key ≡ tru
     (λ others. absurd (none_in e (subst (λ b. Contains (cond (cond b (is_live item.kind) false)
     (day_entries item ++ line_entries item item.todo.attendees) []) e) others h)))
 
--- what follows of either outcome follows
+-- what follows from either outcome holds
 pub either_way : {A E P Q G : Type 0} (r : Result A E) → OnOk r P → OnErr r Q → (P → G) → (Q → G) → G
 either_way (Ok x) p q f g = f p
 either_way (Err e) p q f g = g q
 
--- two facts of an outcome are one
+-- two facts about an outcome are one
 pub ok_both : {A E : Type 0} (P Q : Type 0) (r : Result A E) → OnOk r P → OnOk r Q → OnOk r (P × Q)
 ok_both P Q (Ok x) p q = (p, q)
 ok_both P Q (Err e) p q = tt
@@ -147,7 +147,7 @@ module _ (kept items : List Item) (grown index : Index) (settled : HasSettled ke
   index_settled : IsIndexOf kept index
   index_settled e = (settled_from e, settled_to e)
 
--- what no row can be governed by leaves the index as it is
+-- what can't govern a row leaves the index as it is
 pub index_stays : (old news after : List Item) → IsState old → AreOfRows [] news → AreKept after (old ++ news) → (index : Index) →
     IsIndexOf old index → IsIndexOf after index
 index_stays old news after state of hears index is = index_settled after [] index index
@@ -172,7 +172,7 @@ index_stays old news after state of hears index is = index_settled after [] inde
 module _ (old news found giving items : List Item) (index grown settled : Index) (is : IsIndexOf old index)
     (gives_in : (i : Item) → Contains giving i → Contains items i) (found_in : (i : Item) → Contains found i → Contains items i)
     (grows : HasGrown found index grown) where
-  -- the entries of those that are heard are there, and then those of what is not kept are gone
+  -- the entries of what is heard were added, and then those of what is not kept were removed
   pub index_after : (after : List Item) → IsState old → AreOfRows found news → AreGivingWay old found giving → AreKept after (old ++ news) →
       ((e : IndexEntry) → IsNoted found e → has grown e ≡ true) → HasSettled after items grown settled → IsIndexOf after settled
   index_after after state of gives hears all settles = index_settled after items grown settled settles
@@ -195,7 +195,7 @@ module _ (old news found giving items : List Item) (index grown settled : Index)
         })
       ])
 
-  -- after a refusal nothing was heard
+  -- if an allocation failed, nothing was heard
   pub index_back : HasSettled old items grown settled → IsIndexOf old settled
   index_back settles = index_settled old items grown settled settles
       (λ e h. elim (grows.among e h) [
@@ -222,7 +222,7 @@ grown_more items item index now next grown widens = record {
       }));
 }
 
--- a part of the items is all that is asked for
+-- it has grown for all items if it has for a part of them
 pub grown_all : (items all : List Item) (index now : Index) → ((i : Item) → Contains items i → Contains all i) →
     HasGrown items index now → HasGrown all index now
 grown_all items all index now part grown = record {
@@ -246,7 +246,7 @@ noted_more items item now next all is e n = elim (Contains-push_cases items item
     or_true true = refl
     or_true false = refl
 
--- the items gone over so far have lost their entries, where they are not kept
+-- the items gone through so far have lost their entries, unless they are kept
 pub settled_none : (state : List Item) (index : Index) → HasSettled state [] index index
 settled_none state index = record { none_new = λ e h. h; stays = λ e h all. h; gone = λ i h. absurd (none_in i h) }
 

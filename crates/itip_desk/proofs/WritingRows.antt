@@ -1,4 +1,4 @@
--- Rows that are written a UID at a time: what was written of them, and what is kept to be written.
+-- Rows that are written one UID at a time: what was written of them, and what is kept to be written.
 use Rattle.std.proofs.Common.{◌≡◌, ℕ, ◌≤◌, List, [], ◌++◌, refl, sym, ap, subst, ◌∙◌, append_assoc, append-nil, inl, inr, Option}
 use Rattle.std.proofs.Common.{None, Result, Ok, Err}
 use Rattle.std.specs.Prelude.{OnErr}
@@ -20,7 +20,7 @@ pub on_err : {T E P : Type 0} (r : Result T E) → P → OnErr r P
 on_err (Ok x) p = tt
 on_err (Err e) p = p
 
--- the text of some rows behind what is kept, and that of more behind it
+-- the text of some rows after what is kept, and then that of more rows
 text_behind : (text : Row → List ℕ) (kept : List ℕ) (done more : List Row) →
     (kept ++ flat_map text done) ++ flat_map text more ≡ kept ++ flat_map text (done ++ more)
 text_behind text kept done more =
@@ -37,7 +37,7 @@ module _ (text : Row → List ℕ) (old mid : Option (List ℕ)) (kept rest : Li
       subst (λ (t : List ℕ). MovesOut old mid t grown) (text_behind text kept done more)
       (moves_more old mid (kept ++ flat_map text done) rest moves (flat_map text more) grown is)
 
-  -- where what is left is written in part, a front of all is, whatever rows follow
+  -- if what is left is written in part, so is a prefix of all, whatever rows follow
   pub texts_front : (new : Option (List ℕ)) (more : List Row) → AppendsFront mid new rest →
       AppendsFront old new (kept ++ flat_map text (done ++ more))
   texts_front new more front =
@@ -51,7 +51,7 @@ texts_none text o kept = subst (λ (t : List ℕ). MovesOut o o t kept) (sym (ap
 
 -- ---- the rows of all UIDs
 
--- Of these rows some were written behind what was kept, and others are left.
+-- Some of these rows were written after what was kept, and others are left.
 pub record WritesSoFar (text : Row → List ℕ) (asked : RowsByUid) (all : List Row) (old new : Option (List ℕ))
     (kept rest : List ℕ) : Type 0
   where
@@ -85,7 +85,7 @@ module _ (text : Row → List ℕ) (asked : RowsByUid) (all : List Row) (old mid
       subst (λ (rows : List Row). MovesOut old mid (kept ++ flat_map text rows) rest) (sym same) so_far.moved
 
   module _ (next : RowsByUid) (rows : List Row) (part : IsPart asked next rows) (new : Option (List ℕ)) where
-    -- the rows of one UID more
+    -- the rows of one more UID
     pub one_more : (last : List ℕ) → MovesOut mid new (rest ++ flat_map text rows) last → WritesSoFar text next all old new kept last
     one_more last moves =
         let split = part.splits so_far.left so_far.are_left in
@@ -98,7 +98,7 @@ module _ (text : Row → List ℕ) (asked : RowsByUid) (all : List Row) (old mid
               (texts_more text old mid kept rest so_far.done so_far.moved rows (rest ++ flat_map text rows) refl) new last moves;
         }
 
-    -- of which a front was written
+    -- of which a prefix was written
     pub front_of_more : AppendsFront mid new (rest ++ flat_map text rows) → AppendsFront old new (kept ++ flat_map text all)
     front_of_more front =
         let split = part.splits so_far.left so_far.are_left in

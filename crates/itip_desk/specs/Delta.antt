@@ -1,4 +1,4 @@
--- Deltas: the canonical octets of items in a row, and the batch that octets tell (our own format).
+-- Deltas: the canonical bytes of items, one after another, and the batch that bytes are read as (our own format).
 use Rattle.std.specs.Prelude.{◌≡◌, ℕ, ◌⊎◌, List, [], ◌∷◌, ◌++◌}
 use Rattle.itip_message.specs.Message.{ReadsMessage, RefusesMessage}
 use Rattle.itip_message.specs.declared.error.MessageRefusal.{MessageRefusal}
@@ -8,7 +8,7 @@ use Rattle.itip_desk.specs.Octets.{AscendOctets}
 use Rattle.itip_message.specs.Cutting.{IsCutInto}
 use Rattle.itip_message.specs.Scanned.{messages_of}
 
--- the canonical octets of items, in their order
+-- the canonical bytes of items, in order
 unfoldable pub delta_octets : List Item → List ℕ
 delta_octets [] = []
 delta_octets (item ∷ items) = item.bytes ++ delta_octets items
@@ -19,14 +19,14 @@ pub record GivesBatch (text : List ℕ) (batch : List Item) : Type 0 where
   pub reads : ReadsMessage text items
   pub batch_is : IsItemsOf batch items
 
--- each of these texts is a message, and gives the items beside it
+-- each of these texts is a message, read as the items in the same place
 abbrev pub AreMessages : List (List ℕ) → List (List Item) → Type 0
 AreMessages [] [] = Unit {0}
 AreMessages [] (items ∷ given) = ⊥
 AreMessages (text ∷ texts) [] = ⊥
 AreMessages (text ∷ texts) (items ∷ given) = ReadsMessage text items × AreMessages texts given
 
--- the first of these texts that is no message is refused for this cause
+-- the first of these texts that is not a message is refused for this cause
 abbrev pub FirstRefused : List (List ℕ) → MessageRefusal → Type 0
 FirstRefused [] fault = ⊥
 FirstRefused (text ∷ texts) fault = RefusesMessage text fault ⊎ (((items : List Item) × ReadsMessage text items) × FirstRefused texts fault)
@@ -35,7 +35,7 @@ abbrev pub all_of : List (List Item) → List Item
 all_of [] = []
 all_of (items ∷ given) = items ++ all_of given
 
--- the items of all messages of these octets make this batch
+-- the items of all messages in these bytes make this batch
 pub record ReadsDelta (bytes : List ℕ) (batch : List Item) : Type 0 where
   pub messages : List (List ℕ)
   pub given : List (List Item)
@@ -43,19 +43,19 @@ pub record ReadsDelta (bytes : List ℕ) (batch : List Item) : Type 0 where
   pub read : AreMessages messages given
   pub batch_is : IsItemsOf batch (all_of given)
 
--- the first message of these octets that is refused, is for this cause
+-- the first message in these bytes that is refused is refused for this cause
 pub record RefusesDelta (bytes : List ℕ) (fault : MessageRefusal) : Type 0 where
   pub messages : List (List ℕ)
   pub cut : IsCutInto bytes messages
   pub first : FirstRefused messages fault
 
--- the octets of a batch
+-- the bytes of a batch
 pub record IsDelta (bytes : List ℕ) : Type 0 where
   pub batch : List Item
   pub ascend : AscendOctets batch
   pub octets : bytes ≡ delta_octets batch
 
--- What the rest of some octets gives stands after the items of what was read before it.
+-- What is read from the rest of some bytes follows the items that were read before it, and where the rest is refused, so are all.
 pub record Continues (bytes rest : List ℕ) (items : List Item) : Type 0 where
   pub read : (given : List (List Item)) → AreMessages (messages_of rest) given
       → (all : List (List Item)) × AreMessages (messages_of bytes) all × (all_of all ≡ items ++ all_of given)

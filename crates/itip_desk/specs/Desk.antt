@@ -1,4 +1,4 @@
--- A desk as it is seen: what it keeps, its tick, and the UIDs that moved (our own rule).
+-- A desk as contracts see it: what it keeps, its tick, and the UIDs that moved (our own rule).
 use Rattle.std.specs.Prelude.{◌≡◌, ◌↔◌, ℕ, ◌<◌, List, [], ◌++◌, Some, refl}
 use Rattle.std.specs.List.{Contains}
 use Rattle.std.specs.Ordering.{nat_cmp}
@@ -29,7 +29,7 @@ shown_code = code_by (List Item × (ℕ × List (List ℕ × ℕ))) (coded×
 abbrev pub CarriesAfter : List (List ℕ × ℕ) → ℕ → List ℕ → Type 0
 CarriesAfter changed since uid = (tick : ℕ) × (value_at (slice_cmp nat_cmp) changed uid ≡ Some tick) × (since < tick)
 
--- each UID that a step moves carries the tick after the step, and each other carries what it did
+-- each UID that a step moves carries the tick after the step, and each other UID carries what it did before
 pub record IsCarriedOn (old new : Shown) (step : List Item) : Type 0 where
   pub moved : (since : ℕ) (uid : List ℕ) → Moves old.kept step uid → CarriesAfter new.changed since uid ↔ (since < new.tick)
   pub others : (since : ℕ) (uid : List ℕ) → KeepSame uid old.kept (old.kept ++ step) → CarriesAfter new.changed since uid ↔
@@ -42,7 +42,7 @@ pub record IsDeskOf (steps : List (List Item)) (start : ℕ) (desk : Shown) : Ty
   pub tick : Ticks [] start steps desk.tick
   pub changed : (since : ℕ) (uid : List ℕ) → CarriesAfter desk.changed since uid ↔ MovedAfter [] start steps since uid
 
--- the kept items of the UIDs that carry a tick above `since`, by canonical octets, each once
+-- the kept items of the UIDs that carry a tick above `since`, sorted by canonical bytes, each once
 pub record IsDeltaOf (desk : Shown) (since : ℕ) (batch : List Item) : Type 0 where
   pub ascend : AscendOctets batch
   pub same : (item : Item) → Contains batch item ↔ (Contains desk.kept item × CarriesAfter desk.changed since (uid_of item.key))

@@ -1,8 +1,8 @@
--- What an index of kept items has (our own form): the items by the days on which their rows can stand, those whose rows can stand on
--- any day, and by the attendees that their rows can show.
-use Rattle.std.specs.Prelude.{◌≡◌, ◌⊎◌, ℕ, ℤ, pos, cond, List, [], ◌++◌, map, option_to_list, Option, Bool, false}
+-- What an index of kept items has (our own form): the items by the days on which their rows can be, some of them on any day, and by
+-- the attendees that their rows can show.
+use Rattle.std.specs.Prelude.{◌≡◌, ◌⊎◌, ℕ, ℤ, pos, cond, List, [], ◌++◌, map, option_to_list, Bool, false}
 use Rattle.std.specs.List.{Contains}
-use Rattle.std.specs.Option.{option_map, option_cmp}
+use Rattle.std.specs.Option.{option_cmp}
 use Rattle.std.specs.declared.cmp.Ordering.{Ordering}
 use Rattle.std.specs.declared.cmp.Ordering.TheVariants.{Less, Equal, Greater}
 use Rattle.std.specs.Ordering.{nat_cmp, int_cmp, ordering_then, is_eq}
@@ -30,7 +30,7 @@ use Rattle.itip_desk.specs.declared.entry.Mark.{Mark}
 use Rattle.itip_desk.specs.declared.entry.Mark.TheVariants.{Day, Always}
 use Rattle.itip_desk.specs.declared.entry.Owner.{Owner}
 
--- the order of marks: by kind, and by day
+-- the order of marks: by kind, then by day
 abbrev pub sort_of : Mark → ℕ
 sort_of (Day day) = 0
 sort_of Always = 1
@@ -42,12 +42,12 @@ day_of Always = pos 0
 abbrev pub mark_cmp : Mark → Mark → Ordering
 mark_cmp a b = ordering_then (nat_cmp (sort_of a) (sort_of b)) (int_cmp (day_of a) (day_of b))
 
--- the order of items: by kind of key and instance, and then as revisions
+-- the order of items: by kind of key, then by instance, then as revisions
 abbrev pub item_cmp : Item → Item → Ordering
 item_cmp a b = ordering_then (nat_cmp (rank_of a.key) (rank_of b.key))
     (ordering_then (option_cmp moment_cmp (instance_of a.key) (instance_of b.key)) (revision_cmp a b))
 
--- the order of owners: by the numbers of their UIDs, and then by item
+-- the order of owners: by the numbers of their UIDs, then by item
 abbrev pub owner_cmp : Owner → Owner → Ordering
 owner_cmp a b = ordering_then (nat_cmp a.uid b.uid) (item_cmp a.item b.item)
 
@@ -55,7 +55,7 @@ owner_cmp a b = ordering_then (nat_cmp a.uid b.uid) (item_cmp a.item b.item)
 abbrev pub day_cmp : DayEntry → DayEntry → Ordering
 day_cmp a b = ordering_then (mark_cmp a.mark b.mark) (owner_cmp a.owner b.owner)
 
--- by the number of the attendee, then by that of the UID, and then by item
+-- by the number of the attendee, then by that of the UID, then by item
 abbrev pub name_cmp : NameEntry → NameEntry → Ordering
 name_cmp a b = ordering_then (nat_cmp a.attendee b.attendee) (ordering_then (nat_cmp a.uid b.uid) (item_cmp a.item b.item))
 
@@ -76,7 +76,7 @@ pub name_total : IsTotalOrder name_cmp
 name_total = then_total (on_total (λ (e : NameEntry). e.attendee) nat_cmp_total)
     (then_total (on_total (λ (e : NameEntry). e.uid) nat_cmp_total) (on_total (λ (e : NameEntry). e.item) item_total))
 
--- where one order and then another answer Equal, each does
+-- where one order followed by another says Equal, each of them does
 then_equal : (r s : Ordering) → ordering_then r s ≡ Equal → (r ≡ Equal) × (s ≡ Equal)
 then_equal Less s e = cc
 then_equal Equal s e = (refl, e)
@@ -117,7 +117,7 @@ name_exact a b e =
     let item : a.item ≡ b.item = item_exact a.item b.item second.1 in
     λ i. record { attendee = attendee i; uid = uid i; item = item i }
 
--- a day, or any
+-- the mark of these days
 abbrev pub mark_of : RowDays → Mark
 mark_of (days.One day) = Day day
 mark_of days.Any = Always
@@ -134,8 +134,8 @@ day_entry item mark = record { mark = mark; owner = owner_of item }
 abbrev pub name_entry : Item → ℕ → NameEntry
 name_entry item attendee = record { attendee = attendee; uid = uid_number (uid_of item.key); item = item }
 
--- the same with another number in the place of that of the UID: 0 before all entries of the mark or the attendee, and the greatest
--- number of 32 bits behind them
+-- the same with another number in place of that of the UID: with 0 before all entries of the mark or the attendee, and with the
+-- greatest number of 32 bits after them
 abbrev pub day_bound : Mark → ℕ → Item → DayEntry
 day_bound mark uid item = record { mark = mark; owner = record { uid = uid; item = item } }
 
@@ -163,12 +163,12 @@ same_entry (inl a) (inr b) = false
 same_entry (inr a) (inl b) = false
 same_entry (inr a) (inr b) = is_eq (name_cmp a b)
 
--- the item that gives an entry
+-- the item of an entry
 abbrev pub item_of : IndexEntry → Item
 item_of (inl e) = e.owner.item
 item_of (inr e) = e.item
 
--- the entries of an item: of the days on which the rows can stand for which it is needed, and of its ATTENDEE lines
+-- the entries of an item: of the days on which the rows that need it can be, and of its ATTENDEE lines
 abbrev pub days_entry : Item → RowDays → IndexEntry
 days_entry item days = of_day (day_entry item (mark_of days))
 
@@ -181,11 +181,11 @@ day_entries item = map (days_entry item) (option_to_list (row_days item))
 abbrev pub line_entries : Item → List Property → List IndexEntry
 line_entries item lines = map (line_entry item) lines
 
--- the entries of an item that can have rows
+-- all entries of an item, or none if it can't have rows
 abbrev pub entries_of : Item → List IndexEntry
 entries_of item = cond (has_rows item) (day_entries item ++ line_entries item item.todo.attendees) []
 
--- an item of the set gives this entry
+-- an item of the set has this entry
 pub record IsNoted (set : List Item) (entry : IndexEntry) : Type 0 where
   pub item : Item
   pub there : Contains set item

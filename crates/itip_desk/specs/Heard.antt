@@ -15,19 +15,19 @@ abbrev pub TickStep : List Item → List Item → ℕ → ℕ → Type 0
 TickStep before step tick next = (((uid : List ℕ) × Moves before step uid) × (next ≡ tick + 1)) ⊎
     (((uid : List ℕ) → KeepSame uid before (before ++ step)) × (next ≡ tick))
 
--- the tick after these steps, where it was `tick` when `before` had been heard
+-- the tick after these steps, if it was `tick` when `before` had been heard
 abbrev pub Ticks : List Item → ℕ → List (List Item) → ℕ → Type 0
 Ticks before tick [] last = last ≡ tick
 Ticks before tick (step ∷ steps) last = (next : ℕ) × TickStep before step tick next × Ticks (before ++ step) next steps last
 
--- a UID moved in one of these steps that left the tick above `since`, where the tick was `tick` when `before` had been heard
+-- a UID moved in one of these steps that left the tick above `since`, if the tick was `tick` when `before` had been heard
 abbrev pub MovedAfter : List Item → ℕ → List (List Item) → ℕ → List ℕ → Type 0
 MovedAfter before tick [] since uid = ⊥
 MovedAfter before tick (step ∷ steps) since uid =
     (next : ℕ) × TickStep before step tick next ×
     ((Moves before step uid × (since < next)) ⊎ MovedAfter (before ++ step) next steps since uid)
 
--- These are all items heard in these steps from a starting tick that are of UIDs which moved after a tick, kept or not.
+-- These are all items heard in these steps from a starting tick, kept or not, that are of UIDs that moved after a tick.
 abbrev pub TellsAfter : ℕ → List (List Item) → ℕ → List Item → Type 0
 TellsAfter start steps since told =
     (item : Item) → Contains told item ↔ (Contains (heard steps) item × MovedAfter [] start steps since (uid_of item.key))

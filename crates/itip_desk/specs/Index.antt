@@ -13,7 +13,7 @@ abbrev pub has : Index → IndexEntry → Bool
 has index (inl e) = contains day_cmp index.days e
 has index (inr e) = contains name_cmp index.names e
 
--- the same of a list
+-- whether a list has an entry
 abbrev pub is_in : List IndexEntry → IndexEntry → Bool
 is_in entries entry = list_any (same_entry entry) entries
 
@@ -22,25 +22,25 @@ pub record IsEmptyIndex (index : Index) : Type 0 where
   pub days : index.days.keys ≡ []
   pub names : index.names.keys ≡ []
 
--- the entries are those of these items
+-- the entries of an index are those of these items
 abbrev pub IsIndexOf : List Item → Index → Type 0
 IsIndexOf kept index = (entry : IndexEntry) → IsTrue (has index entry) ↔ IsNoted kept entry
 
--- those of the news that rows can be governed by: of a to-do as a whole, of an instance, and of an instance and all after it
+-- the news that can govern rows: those of a to-do as a whole, of an instance and of a range
 abbrev pub AreOfRows : List Item → List Item → Type 0
 AreOfRows found news = (item : Item) → Contains found item ↔ (Contains news item × (is_of_rows item.key ≡ true))
 
--- an index keeps what it had, and gains no entry but some of these
+-- an index keeps what it had, and gains only entries that are among these
 abbrev pub Widens : (IndexEntry → Bool) → Index → Index → Type 0
 Widens more old new = (entry : IndexEntry) → (has old entry ≡ true → has new entry ≡ true) ×
     (has new entry ≡ true → (has old entry || more entry) ≡ true)
 
--- an index has what it had, and beside that only entries of these items
+-- an index has what it had, and apart from that only entries of these items
 pub record HasGrown (items : List Item) (old new : Index) : Type 0 where
   pub keeps : (entry : IndexEntry) → has old entry ≡ true → has new entry ≡ true
   pub among : (entry : IndexEntry) → has new entry ≡ true → (has old entry ≡ true) ⊎ IsNoted items entry
 
--- Of these items all that are not in the state have lost their entries, and no other entry is gone.
+-- Those of these items that are not in the state have lost their entries; no other entry is gone, and none is new.
 pub record HasSettled (state items : List Item) (old new : Index) : Type 0 where
   pub none_new : (entry : IndexEntry) → has new entry ≡ true → has old entry ≡ true
   pub stays : (entry : IndexEntry) → has old entry ≡ true → ((item : Item) → Contains (entries_of item) entry → Contains state item) →

@@ -11,9 +11,9 @@ use Rattle.std.specs.declared.cmp.Ordering.{Ordering}
 use Rattle.itip_join.specs.KeyByKey.{value_at}
 
 pub record Moved : Type 0 where
-  -- what each UID carries, by UID; 0 stands for a place that carries nothing yet
+  -- what each UID carries, by UID; 0 is a place that carries nothing yet
   pub carried : List (List ℕ × ℕ)
-  -- the same by tick; others may stand beside them
+  -- the same by tick; there may be others too
   pub order : List (ℕ × List ℕ)
 
 abbrev pub moved_code : Coded Moved
@@ -25,7 +25,7 @@ moved_code = code_by (List (List ℕ × ℕ) × List (ℕ × List ℕ)) (coded×
 abbrev pub is_listed : List (List ℕ) → List ℕ → Bool
 is_listed uids uid = list_any (λ u. is_eq (slice_cmp nat_cmp u uid)) uids
 
--- what a UID carries, where it carries anything
+-- what a UID carries, if it has a place
 abbrev pub tick_at : List (List ℕ × ℕ) → List ℕ → Option ℕ
 tick_at carried uid = value_at (slice_cmp nat_cmp) carried uid
 
@@ -36,7 +36,7 @@ move_cmp = λ a b. ordering_then (nat_cmp a.0 b.0) (slice_cmp nat_cmp a.1 b.1)
 abbrev pub has_move : List (ℕ × List ℕ) → ℕ × List ℕ → Bool
 has_move order move = list_any (is_at (move_cmp move)) order
 
--- each UID that carries a tick is there under it
+-- each UID that carries a tick is in order under it
 abbrev pub AreInOrder : List (List ℕ × ℕ) → List (ℕ × List ℕ) → Type 0
 AreInOrder carried order = (uid : List ℕ) (tick : ℕ) → tick_at carried uid ≡ Some tick → 0 < tick → has_move order (tick, uid) ≡ true
 
@@ -52,26 +52,26 @@ AreTicks carried = (uid : List ℕ) (tick : ℕ) → tick_at carried uid ≡ Som
 abbrev pub AreUpTo : ℕ → List (List ℕ × ℕ) → Type 0
 AreUpTo top carried = (uid : List ℕ) (tick : ℕ) → tick_at carried uid ≡ Some tick → tick ≤ top
 
--- each UID carries what it did; of these UIDs some that carried nothing may have places
+-- each UID carries what it did before, but some of these UIDs that had no place may have one now
 abbrev pub HavePlaces : List (List ℕ) → List (List ℕ × ℕ) → List (List ℕ × ℕ) → Type 0
 HavePlaces uids was now = (uid : List ℕ) → (tick_at now uid ≡ tick_at was uid) ⊎
     ((is_listed uids uid ≡ true) × (tick_at was uid ≡ None) × (tick_at now uid ≡ Some 0))
 
--- each of these UIDs has a place, and stands in order under a tick that it is to carry
+-- each of these UIDs has a place, and is in order under the tick that it is to carry
 pub record AreReady (uids : List (List ℕ)) (tick : ℕ) (moved : Moved) : Type 0 where
   pub placed : (uid : List ℕ) → is_listed uids uid ≡ true → is_some (tick_at moved.carried uid) ≡ true
   pub in_order : (uid : List ℕ) → is_listed uids uid ≡ true → has_move moved.order (tick, uid) ≡ true
 
--- the tick of the last of these moves that is of a UID
+-- the tick of the last of these moves that is of this UID
 abbrev pub last_move : List (List ℕ × ℕ) → List ℕ → Option ℕ
 last_move [] uid = None
 last_move (move ∷ moves) uid = cond (is_some (last_move moves uid)) (last_move moves uid)
     (cond (is_eq (slice_cmp nat_cmp move.0 uid)) (Some move.1) None)
 
--- each UID carries the tick of the last of these moves that is of it
+-- each UID carries the tick of the last of these moves that is of it, and other UIDs are not there
 abbrev pub CarriesLast : List (List ℕ × ℕ) → List (List ℕ × ℕ) → Type 0
 CarriesLast moves carried = (uid : List ℕ) → tick_at carried uid ≡ last_move moves uid
 
--- moves at the ticks of a desk up to this one
+-- moves at ticks from 1 up to this one
 abbrev pub AreMovesTo : ℕ → List (List ℕ × ℕ) → Type 0
 AreMovesTo top moves = All (λ (move : List ℕ × ℕ). (0 < move.1) × (move.1 ≤ top)) moves

@@ -1,4 +1,4 @@
--- Items by canonical octets, each once (our own rule).
+-- Items sorted by canonical bytes, each once (our own rule).
 use Rattle.std.specs.Prelude.{◌≡◌, List}
 use Rattle.std.specs.List.{AllPairs}
 use Rattle.std.specs.Ordering.{nat_cmp}

@@ -6,7 +6,7 @@ use itip_state::{SharedItem, by_octets};
 use std::alloc::{AllocError, Global};
 use std::marker::Model;
 
-/// A finite set of items: by canonical octets, each once.
+/// A finite set of items, sorted by canonical bytes, each once.
 #[derive(Debug, Drop)]
 pub struct Batch {
     items: Vec<SharedItem>,
@@ -34,7 +34,7 @@ impl Batch {
     ghost use Rattle.itip_state.specs.Kept.{IsItemsOf};
     ghost use Rattle.itip_desk.specs.Octets.{AscendOctets};
 
-    /// The items given, by canonical octets, each once. A refusal (out of memory) drops the items. No item takes no memory.
+    /// The batch of these items. If an allocation fails, they are dropped. Allocates nothing if there are no items.
     pub fn of_items(items: Vec<Item>) -> Result<Batch, AllocError>
         ensures items { IfOk result (λ batch. IsItemsOf batch items.items) }
         ensures succeeds { items.items ≡ [] → IsOk result }
@@ -44,12 +44,12 @@ impl Batch {
         for item in items {
             shared.push(SharedItem::new(alloc, item)?)?;
         }
-        // Each comparison of two with one front goes over the front: so those stand in order before all are sorted.
+        // Comparing two items that share a front goes over all of it, so items are first put in order by what follows the front.
         shared.sort_unstable_by(|one, other| one.bytes.own().cmp(other.bytes.own()));
         Batch::of_shared(shared)
     }
 
-    /// The same of items that are shared already.
+    /// Like [`Batch::of_items`], but of items that are already shared.
     pub(crate) fn of_shared(items: Vec<SharedItem>) -> Result<Batch, AllocError>
         ensures items { IfOk result (λ batch. IsItemsOf batch items.items) }
         ensures succeeds { items.items ≡ [] → IsOk result }
@@ -59,7 +59,7 @@ impl Batch {
         })
     }
 
-    /// The items.
+    /// The items, sorted by canonical bytes, each once.
     pub fn as_slice(&self) -> &[SharedItem]
         ensures items { result.now ≡ self.now }
         ensures ascend { AscendOctets self.now }
@@ -67,7 +67,7 @@ impl Batch {
         self.items.as_slice()
     }
 
-    /// What is true of every batch: its items ascend by canonical octets. The call does nothing; a prover who makes it learns this.
+    /// States what is true of every batch: its items ascend by canonical bytes. It does nothing; a proof calls it to learn this.
     pub fn lawful(&self)
         ensures { AscendOctets self.now }
     {

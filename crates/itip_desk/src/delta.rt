@@ -1,4 +1,4 @@
-//! The octets of a batch, and the batch that octets tell.
+//! Writing a batch as a delta, and reading a batch from bytes.
 ghost use Rattle.std.specs.Prelude.{◌≡◌, [], IfOk, IfErr, IsOk};
 ghost use Rattle.itip_message.specs.Message.{RefusesMessage};
 ghost use Rattle.itip_message.specs.Refusals.{IfRefused};
@@ -9,8 +9,9 @@ use crate::batch::Batch;
 use itip_message::{ReadError, next_message, read_message};
 use std::alloc::Global;
 
-/// The canonical octets of the items, in their order (our own format). They are read as this batch. Of an empty batch it takes no
-/// memory.
+/// The canonical bytes of the items of a batch, one after another, in order (our own format). They are read back as this batch.
+///
+/// Fails if an allocation fails. Allocates nothing if the batch is empty.
 pub fn write_delta(alloc: Global, batch: &Batch) -> Result<Vec<u8>, NoMemory>
     ensures octets { IfOk result (λ octets. octets.items ≡ delta_octets batch.now) }
     ensures read_again { IfOk result (λ octets. ReadsDelta octets.items batch.now) }
@@ -23,9 +24,10 @@ pub fn write_delta(alloc: Global, batch: &Batch) -> Result<Vec<u8>, NoMemory>
     Ok(octets)
 }
 
-/// The batch of the items that a message gives. It is the one way from the octets of a message to what a desk takes.
+/// Reads one message as the batch of its items, which a desk can take.
 ///
-/// The text is refused where [`read_message`] refuses it, with its place; or when out of memory.
+/// Fails with the refusal of [`read_message`], and its place, if that refuses the text, and with [`ReadError::NoMemory`] if an
+/// allocation fails.
 pub fn read_batch(alloc: Global, text: &[u8]) -> Result<Batch, ReadError>
     ensures found { IfOk result (GivesBatch text.now) }
     ensures fault { IfErr result (λ e. IfRefused e (RefusesMessage text.now)) }
@@ -34,11 +36,12 @@ pub fn read_batch(alloc: Global, text: &[u8]) -> Result<Batch, ReadError>
     Ok(Batch::of_items(items)?)
 }
 
-/// The batch of all items that the messages of a delta give.
+/// Reads the messages of a delta as the batch of all their items.
 ///
-/// The octets are cut behind each line that is END:VCALENDAR, unfolded and without regard to case, and each piece is
-/// read as a message, with limits and line numbers of its own. Empty lines behind the last are no piece. The first
-/// piece that is refused decides; a delta as a whole has no limit. Out of memory is answered only where a growth was refused.
+/// The bytes are cut after each line that is END:VCALENDAR, unfolded and without regard to case, and each piece is read as a message,
+/// with limits and line numbers of its own. Empty lines after the last are not a piece. A delta as a whole has no limit.
+///
+/// Fails with the refusal of the first piece that is refused, and with [`ReadError::NoMemory`] only if an allocation fails.
 pub fn read_delta(alloc: Global, octets: &[u8]) -> Result<Batch, ReadError>
     ensures found { IfOk result (ReadsDelta octets.now) }
     ensures fault { IfErr result (λ e. IfRefused e (RefusesDelta octets.now)) }

@@ -15,14 +15,14 @@ use itip_view::{RowsByUid, ViewError, Wanted, Window, sorted_uids};
 use std::alloc::{AllocError, Global};
 use std::marker::Model;
 
-/// What a taken batch changed: the tick after it, and the UIDs that moved, by octets, each once.
+/// What taking a batch changed: the tick after it, and the UIDs that moved, sorted by bytes, each once.
 #[derive(Debug, Drop)]
 pub struct Changed {
     pub tick: u64,
     pub uids: Vec<Uid>,
 }
 
-/// Copies of the UIDs that items are about, by octets, each once. Of no item it takes no memory.
+/// Copies of the UIDs that items are about, sorted by bytes, each once. Allocates nothing if there are no items.
 fn copies_of_uids(alloc: Global, items: &[&SharedItem]) -> Result<Vec<Uid>, AllocError>
     ensures uids { IfOk result (λ copies. AreUidsOf copies.items (map (λ item. item.now) items.now)) }
     ensures succeeds { items.now ≡ [] → IsOk result }
@@ -42,7 +42,7 @@ fn copies(alloc: Global, uids: &[&Uid]) -> Result<Vec<Uid>, AllocError>
     Ok(copies)
 }
 
-/// Each of these items.
+/// A reference to each of these items, in order.
 fn shared_each(alloc: Global, items: &[SharedItem]) -> Result<Vec<&SharedItem>, AllocError>
     ensures { IfOk result (λ each. map (λ item. item.now) each.items ≡ items.now) }
 {
@@ -53,7 +53,7 @@ fn shared_each(alloc: Global, items: &[SharedItem]) -> Result<Vec<&SharedItem>, 
     Ok(each)
 }
 
-/// A replica: what it keeps of all that it has heard, its tick, and the UIDs that moved, each with the tick of its last move.
+/// A replica: what it keeps of everything it has heard, its tick, and the UIDs that moved, each with the tick of its last move.
 #[derive(Debug, Drop)]
 pub struct Desk {
     kept: IndexedState,
@@ -88,7 +88,7 @@ impl Desk {
     ghost use Rattle.itip_view.specs.Showing.{Shows, AreRowsWhere, AreTooManyWhere, IsListTextFor};
     ghost use Rattle.itip_view.specs.ListText.{IsListText};
 
-    /// A desk that has heard nothing, at this tick. It takes no memory.
+    /// A desk at this tick that has heard nothing. Allocates nothing.
     pub fn empty_at(alloc: Global, tick: u64) -> Desk
         ensures desk { IsDeskOf [] tick result }
         ensures told { tick ≡ 0 → IsTold result }
@@ -101,9 +101,9 @@ impl Desk {
         }
     }
 
-    /// A desk that keeps what is kept of these items, at this tick. Its UIDs moved last as these moves say, the last of each UID.
+    /// A desk at tick `last` that keeps what is kept of these items. Of several moves of a UID the last in the list is its last move.
     ///
-    /// Refused when out of memory.
+    /// Fails if an allocation fails.
     pub(crate) fn of_parts(
         alloc: Global,
         last: u64,
@@ -127,14 +127,14 @@ impl Desk {
         })
     }
 
-    /// The tick at which a UID moved last; 0 where it didn't.
+    /// The tick at which a UID last moved, or 0 if it hasn't moved.
     pub(crate) fn moved_at(&self, uid: &Uid) -> u64
         ensures { result ≡ unwrap_or (tick_at self.now.changed uid.now) 0 }
     {
         self.moves.tick_of(uid).unwrap_or(0)
     }
 
-    /// The tick: the number of steps that moved a UID, above the first tick.
+    /// The tick: the one that the desk began at, plus the number of steps since then that moved a UID.
     pub fn tick(&self) -> u64
         ensures { result ≡ self.now.tick }
     {
@@ -148,7 +148,7 @@ impl Desk {
         self.kept.state()
     }
 
-    /// The number of kept items, of which each stands once in what the desk shows; `usize::MAX` where there are more. It takes no memory.
+    /// The number of kept items, each counted once, or `usize::MAX` if there are more. Allocates nothing.
     pub fn entries(&self) -> usize
         ensures number { result ≡ min (length self.now.kept) usize.MAX }
         ensures once { HasEachOnce self.now.kept }
@@ -156,10 +156,10 @@ impl Desk {
         self.kept.state().entries()
     }
 
-    /// Hears a batch. Where UIDs move the tick rises by one, and they carry it.
+    /// Hears a batch. If it moves any UIDs, the tick rises by one, and they carry the new tick.
     ///
-    /// Refused when out of memory, or where a UID would move at the last tick; a refusal changes nothing. A batch of which nothing is
-    /// news, as one that was heard before, is never refused.
+    /// Fails with [`DeskError::NoMemory`] if an allocation fails, and with [`DeskError::TicksSpent`] if a UID would move and the tick
+    /// is `u64::MAX`; nothing has changed then. A batch without news, such as one that was heard before, never fails.
     pub fn take(&mut self, batch: &Batch) -> Result<Changed, DeskError>
         ensures kept { OnOk result (AreKept self.new.kept (self.old.kept ++ batch.now)) }
         ensures uids { IfOk result (λ changed. AreMoved changed.uids.items self.old.kept batch.now) }
@@ -197,10 +197,10 @@ impl Desk {
         Ok(Changed { tick, uids })
     }
 
-    /// The kept items of the UIDs that carry a tick above this one: what a desk that was at this tick lacks. At most
-    /// one other UID is looked at.
+    /// The kept items of the UIDs that carry a tick above this one: what an older state of this desk, at this tick, lacks. Moves at
+    /// earlier ticks are not looked at.
     ///
-    /// Refused when out of memory. From the tick of this desk on nothing has moved, and it is not refused.
+    /// Fails if an allocation fails. At the tick of this desk and above, nothing has moved since, and it never fails.
     pub fn delta_since(&self, tick: u64) -> Result<Batch, AllocError>
         ensures delta { IfOk result (IsDeltaOf self.now tick) }
         ensures succeeds { self.now.tick ≤ tick → IsOk result }
@@ -212,7 +212,9 @@ impl Desk {
         Batch::of_shared(self.kept.state().shared_of(&uids)?)
     }
 
-    /// The UIDs that are looked at for the list of a window, perhaps more than once. One that isn't among them has no row there.
+    /// The UIDs that are looked at for the list of a window, perhaps more than once. A UID that isn't among them has no row there.
+    ///
+    /// Fails if an allocation fails.
     pub fn uids_in(&self, window: Window) -> Result<Vec<&Uid>, AllocError>
         ensures { IfOk result (λ uids. (heard : List Item) (row : Row)
             → AreKept self.now.kept heard → IsRow heard window row → Contains (map (λ u. u.now) uids.items) row.uid) }
@@ -221,8 +223,10 @@ impl Desk {
         Ok(found)
     }
 
-    /// The UIDs that are looked at for the rows of the attendee of an address. One that isn't among them has no row
-    /// that shows the attendee.
+    /// The UIDs that are looked at for the rows of the attendee with this address, perhaps more than once. A UID that isn't among
+    /// them has no row that shows the attendee.
+    ///
+    /// Fails if an allocation fails.
     pub fn uids_naming(&self, address: &str) -> Result<Vec<&Uid>, AllocError>
         ensures { IfOk result (λ uids. (heard : List Item) (window : Window) (row : Row)
             → AreKept self.now.kept heard → IsRow heard window row → Shows address.now row
@@ -232,10 +236,10 @@ impl Desk {
         Ok(found)
     }
 
-    /// What the rows of a window are made of, shared with this desk: the kept items of the UIDs that are looked at for
-    /// them, in no particular order, and perhaps more than once. They have the same rows there.
+    /// What the rows of a window are made of, shared with this desk: the kept items of the UIDs that are looked at for them, in no
+    /// particular order, and perhaps more than once. They have the same rows there as the desk.
     ///
-    /// Refused when out of memory.
+    /// Fails if an allocation fails.
     pub fn items_in(&self, window: Window) -> Result<Vec<SharedItem>, AllocError>
         ensures part { IfOk result (λ items. (uids : List (List ℕ)) × ArePartOf items.items self.now.kept uids) }
         ensures rows { IfOk result (λ items. (row : Row) → IsRow items.items window row ↔ IsRow self.now.kept window row) }
@@ -244,11 +248,11 @@ impl Desk {
         self.kept.state().shared_of(&there)
     }
 
-    /// What the rows of the attendee of an address are made of, shared with this desk: the kept items of the UIDs that
-    /// are looked at for them, in no particular order, and perhaps more than once. In each window their rows that show the
-    /// attendee are those of the desk.
+    /// What the rows of the attendee with this address are made of, shared with this desk: the kept items of the UIDs that are looked
+    /// at for them, in no particular order, and perhaps more than once. In every window they have the same rows that show the
+    /// attendee as the desk.
     ///
-    /// Refused when out of memory.
+    /// Fails if an allocation fails.
     pub fn items_naming(&self, address: &str) -> Result<Vec<SharedItem>, AllocError>
         ensures part { IfOk result (λ items. (uids : List (List ℕ)) × ArePartOf items.items self.now.kept uids) }
         ensures rows { IfOk result (λ items. (window : Window) (row : Row)
@@ -258,7 +262,7 @@ impl Desk {
         self.kept.state().shared_of(&naming)
     }
 
-    /// Whether these are as many as the UIDs of which something is kept, and some are. It takes no memory.
+    /// Whether there are at least as many of these as UIDs of which something is kept, and something is. Allocates nothing.
     fn are_as_many(&self, uids: &[&Uid]) -> bool
         ensures { MatchBool result
             ((all : List (List ℕ)) → AreUidsOf all self.now.kept → (0 < length all) × (length all ≤ length uids.now))
@@ -274,10 +278,10 @@ impl Desk {
         true
     }
 
-    /// The rows of the task list in a window, a UID at a time. No UID is looked at whose rows can't stand in it, unless the index
-    /// finds as many, each as often as it finds it, as there are.
+    /// The rows of the task list in a window, one UID at a time. Only UIDs that can have rows there are looked at, unless the index
+    /// finds, repeats included, at least as many UIDs as there are: then all are.
     ///
-    /// Refused when out of memory. Where nothing is kept, no memory is asked for.
+    /// Fails if an allocation fails. Allocates nothing if nothing is kept.
     pub fn rows(&self, window: Window) -> Result<RowsByUid<'_, '_>, AllocError>
         ensures rows { IfOk result (λ asked. (rows : List Row) → AreLeft asked rows ↔ AreRows self.now.kept window rows) }
         ensures asked { IfOk result (AreAsked (λ row. Unit {0}) self.now.kept window) }
@@ -288,16 +292,16 @@ impl Desk {
         let state = self.kept.state();
         let wanted = Wanted::all();
         if self.are_as_many(&uids) {
-            // Those of the state stand in order already, and to sort these would cost more than a look at all.
+            // The UIDs of the state are in order already, and sorting these would cost more than looking at all.
             return RowsByUid::of(self.alloc, state, window, &wanted);
         }
         RowsByUid::among(self.alloc, state, uids, window, &wanted)
     }
 
-    /// The rows in a window that show the attendee of an address, a UID at a time. No UID is looked at whose items don't name
-    /// the attendee.
+    /// The rows in a window that show the attendee with this address, one UID at a time. Only UIDs with an item that names the
+    /// attendee are looked at.
     ///
-    /// Refused when out of memory. Where nothing is kept, no memory is asked for.
+    /// Fails if an allocation fails. Allocates nothing if nothing is kept.
     pub fn rows_for<'a>(
         &'a self,
         window: Window,
@@ -319,9 +323,10 @@ impl Desk {
         )
     }
 
-    /// The text of the task list in a window. UIDs are looked at as for [`Desk::rows`].
+    /// The text of the task list in a window. The UIDs that are looked at are those of [`Desk::rows`].
     ///
-    /// Refused where more than 100,000 rows stand there (31), or when out of memory (32). Where nothing is kept, it is not refused.
+    /// Fails with [`ViewError::TooManyRows`] (31) if there are more than 100,000 rows in the window, and with [`ViewError::NoMemory`]
+    /// (32) if an allocation fails. Never fails if nothing is kept.
     pub fn list(&self, window: Window) -> Result<Vec<u8>, ViewError>
         ensures text { IfOk result (λ text. (heard : List Item) → AreKept self.now.kept heard → IsListText heard window text.items) }
         ensures many { IsErrOf result ViewError.TooManyRows → (heard : List Item) → AreKept self.now.kept heard → AreTooMany heard window }
@@ -331,10 +336,11 @@ impl Desk {
         rows.text()
     }
 
-    /// The text of the rows in a window that show the attendee of an address. No UID is looked at whose items don't name the attendee.
+    /// The text of the rows in a window that show the attendee with this address. The UIDs that are looked at are those of
+    /// [`Desk::rows_for`].
     ///
-    /// Refused where more than 100,000 rows there show the attendee (31), or when out of memory (32). Where nothing is kept, it is not
-    /// refused.
+    /// Fails with [`ViewError::TooManyRows`] (31) if more than 100,000 rows in the window show the attendee, and with
+    /// [`ViewError::NoMemory`] (32) if an allocation fails. Never fails if nothing is kept.
     pub fn list_for(&self, window: Window, address: &str) -> Result<Vec<u8>, ViewError>
         ensures text { IfOk result (λ text. (heard : List Item)
             → AreKept self.now.kept heard → IsListTextFor address.now heard window text.items) }

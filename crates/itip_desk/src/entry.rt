@@ -17,14 +17,14 @@ use std::cmp::Ordering;
 /// The days by which an item is found.
 #[derive(Clone, Copy, Debug)]
 pub(crate) enum Mark {
-    /// A day on which a row can stand that needs it.
+    /// A day, counted from 1970-01-01, on which a row that needs the item can be.
     Day(i32),
-    /// Each window: its rows can stand on any day.
+    /// Every window: its rows can be on any day.
     Always,
 }
 
-/// An item, and the number of its UID. No UID has the numbers 0 and `u32::MAX`: an owner with one of these is a bound, before all items
-/// or behind all, whatever its item.
+/// An item, and the number of its UID. No UID has the number 0 or `u32::MAX`: an owner with one of these is a bound, before all items
+/// or after all of them, whatever its own item.
 #[derive(Debug, Drop)]
 pub(crate) struct Owner {
     pub(crate) uid: u32,
@@ -38,8 +38,8 @@ pub(crate) struct DayEntry {
     pub(crate) owner: Owner,
 }
 
-/// An item, the number of its UID, and the number of an attendee that its rows can show. An item can have thousands of these, so its
-/// owner stands in it bare: 16 bytes.
+/// An item, the number of its UID, and the number of an attendee that its rows can show. An item can have thousands of these, so the
+/// fields of its owner are inlined: 16 bytes.
 #[derive(Debug, Drop)]
 pub(crate) struct NameEntry {
     pub(crate) attendee: u32,
@@ -48,7 +48,7 @@ pub(crate) struct NameEntry {
 }
 
 impl Mark {
-    /// That of these days.
+    /// The mark of these days.
     pub(crate) fn of(days: RowDays) -> Mark
         ensures { result ≡ mark_of days }
     {
@@ -96,7 +96,7 @@ impl Owner {
 }
 
 impl DayEntry {
-    /// The bound of a mark with this number in the place of that of a UID.
+    /// A bound at this mark, with `uid` in place of the number of a UID.
     pub(crate) fn bound(&self, mark: Mark, uid: u32) -> Result<DayEntry, AllocError>
         ensures { IfOk result (λ bound. bound ≡ day_bound mark uid self.now.owner.item) }
     {
@@ -109,7 +109,7 @@ impl DayEntry {
 }
 
 impl NameEntry {
-    /// The bound of an attendee's number with this number in the place of that of a UID.
+    /// A bound at this number of an attendee, with `uid` in place of the number of a UID.
     pub(crate) fn bound(&self, attendee: u32, uid: u32) -> Result<NameEntry, AllocError>
         ensures { IfOk result (λ bound. bound ≡ name_bound attendee uid self.now.item) }
     {
@@ -134,7 +134,7 @@ fn instance(item: &Revision) -> Option<&Moment>
     item.item().key.instance()
 }
 
-/// By kind of key and by instance, and then as revisions.
+/// By kind of key, then by instance, then as revisions.
 fn compare_items(item: &Revision, other: &Revision) -> Ordering
     ensures { result ≡ item_cmp item.now other.now }
 {
@@ -209,7 +209,7 @@ impl PartialOrd for NameEntry {
     }
 }
 
-/// By the number of the attendee, then by that of the UID, and then by item.
+/// By the number of the attendee, then by that of the UID, then by item.
 impl Ord for NameEntry {
     ghost cmp = { name_cmp };
 

@@ -13,7 +13,7 @@ pub enum DeskError {
     /// An allocation failed (20).
     #[error("no memory to take a batch")]
     NoMemory,
-    /// A UID would move at the last tick, `u64::MAX` (21).
+    /// A UID would move, but the desk is at the last tick, `u64::MAX` (21).
     #[error("the ticks are spent")]
     TicksSpent,
 }
@@ -34,13 +34,13 @@ impl<T: Drop> From<AllocFailed<T>> for DeskError {
     }
 }
 
-/// Why there is no desk of some octets.
+/// Why bytes were not read as a desk.
 #[derive(Clone, Copy, PartialEq, Eq, Debug, Drop, Error)]
 pub enum FileError {
     /// An allocation failed (20).
     #[error("no memory to read a desk")]
     NoMemory,
-    /// They are the file of no desk (70, 71).
+    /// They are not read as the file of a desk (70, 71).
     #[error("{0}")]
     Refused(FileRefusal),
 }

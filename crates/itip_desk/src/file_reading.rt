@@ -1,4 +1,4 @@
-//! A desk out of its file.
+//! Reading a desk from its file.
 ghost use Rattle.std.specs.Prelude.{◌≡◌, ◌↔◌, ◌==◌, ◌++◌, ◌<◌, ◌^◌, ℕ, List, Some, codes, IsTrue, IfOk, IfErr, OnOk, IfSome, IfNone};
 ghost use Rattle.std.specs.List.{list_any};
 ghost use Rattle.std.specs.Option.{option_copied};
@@ -19,21 +19,22 @@ use itip_message::{ReadError, next_message, read_message};
 use itip_todo::Uid;
 use std::alloc::{AllocError, Global};
 
-/// What is read of a file, message by message.
+/// What is read from a file, message by message.
 #[derive(Drop)]
 struct FileParts {
     /// The tick of the desk.
     tick: u64,
     items: Vec<Item>,
-    /// The UID of each item, and the tick at which it moved last.
+    /// The UID of each item, and the tick at which it last moved.
     moves: Vec<(Uid, u64)>,
 }
 
-/// The desk whose file these octets are. They are compared with what [`write_desk`](crate::write_desk) writes of it, so every other text is
-/// refused.
+/// Reads a desk from its file. The bytes are compared with what [`write_desk`](crate::write_desk) writes of the desk, so any other
+/// text is refused.
 ///
-/// Refused where another form is named (70), or where they are the file of no desk (71), with the number of the first message that
-/// can't be read as one of such a file, or tells no move, where there is one; or when out of memory.
+/// Fails with [`FileRefusal::OtherForm`] (70) if they name another form, and with [`FileRefusal::Broken`] (71) if they are the file
+/// of no desk, with the number, from 1, of the first message that can't be read as one of such a file or tells no move, if there is
+/// one. Fails with [`FileError::NoMemory`] if an allocation fails.
 pub fn read_desk(alloc: Global, octets: &[u8]) -> Result<Desk, FileError>
     ensures found { IfOk result (TellsDesk octets.now) }
     ensures fault { IfErr result (λ e. IfFileRefused e (RefusesFile octets.now)) }
@@ -57,7 +58,7 @@ fn desk_of(alloc: Global, parts: FileParts) -> Result<Desk, FileError>
     Ok(Desk::of_parts(alloc, tick, &batch, moves)?)
 }
 
-/// The parts of all messages, of which one moved at the tick of the desk, where that is above 0.
+/// Reads the parts of all messages. Refused if no UID moved at the tick of the desk, unless that is 0.
 fn reached_parts(alloc: Global, octets: &[u8]) -> Result<FileParts, FileError>
     ensures found { IfOk result (ReadsFile octets.now) }
     ensures reached { IfOk result (λ parts. ReachTick parts.tick parts.moves.items) }
@@ -71,7 +72,7 @@ fn reached_parts(alloc: Global, octets: &[u8]) -> Result<FileParts, FileError>
     Err(broken(None))
 }
 
-/// Whether a UID moved at the tick of the desk, where that is above 0.
+/// Whether a UID moved at the tick of the desk, or that is 0.
 fn is_reached(parts: &FileParts) -> bool
     ensures { IsTrue result ↔ ReachTick parts.now.tick parts.now.moves.items }
 {
@@ -87,7 +88,7 @@ fn some_moved_at(tick: u64, moves: &[(Uid, u64)]) -> bool
     moves.iter().any(|moved| moved.1 == tick)
 }
 
-/// The parts of all messages.
+/// Reads the parts of all messages.
 fn read_parts(alloc: Global, octets: &[u8]) -> Result<FileParts, FileError>
     ensures found { IfOk result (ReadsFile octets.now) }
     ensures fault { IfErr result (λ e. IfFileRefused e (RefusesFile octets.now)) }
@@ -106,7 +107,7 @@ fn read_parts(alloc: Global, octets: &[u8]) -> Result<FileParts, FileError>
     Ok(parts)
 }
 
-/// The parts of the message of this number.
+/// Reads the parts of the message with this number.
 fn read_part(
     alloc: Global,
     message: &[u8],
@@ -133,7 +134,7 @@ fn read_part(
     Ok(())
 }
 
-/// Puts in the UIDs of items, each with this tick.
+/// Adds the UIDs of the items, each with this tick.
 fn push_moves(moves: &mut Vec<(Uid, u64)>, items: &[Item], moved: u64) -> Result<(), AllocError>
     ensures { OnOk result (moves.new.items ≡ moves.old.items ++ moves_at moved items.now) }
 {
@@ -143,7 +144,7 @@ fn push_moves(moves: &mut Vec<(Uid, u64)>, items: &[Item], moved: u64) -> Result
     Ok(())
 }
 
-/// The tick that the first message tells; 0 of the empty file.
+/// The tick that the first message tells, or 0 for the empty file.
 fn tick_of(octets: &[u8]) -> Result<u64, FileError>
     ensures found { IfOk result (TellsTick octets.now) }
     ensures fault { IfErr result (λ e. IfFileRefused e (RefusesFile octets.now)) }
@@ -172,7 +173,7 @@ fn first_form(octets: &[u8]) -> Option<(u64, &[u8])>
     number_behind(parameters, FORM_NAME)
 }
 
-/// The tick behind the form of a first message.
+/// The tick in what follows the form of a first message.
 fn first_tick(after: &[u8]) -> Option<u64>
     ensures { (items tick : ℕ) (rest : List ℕ) → items < 2 ^ 64 → tick < 2 ^ 64 →
         after.now ≡ first_text items tick rest → result ≡ Some tick }
@@ -183,7 +184,7 @@ fn first_tick(after: &[u8]) -> Option<u64>
     Some(found.0)
 }
 
-/// The tick at which the UID of a message moved last, if it tells that.
+/// The tick at which the UID of a message last moved, if the message tells it.
 fn moved_in(message: &[u8]) -> Option<u64>
     ensures { TellsMove message.now result }
 {
@@ -193,7 +194,7 @@ fn moved_in(message: &[u8]) -> Option<u64>
     Some(found.0)
 }
 
-/// What follows the parameters of PRODID, with those of VERSION.
+/// What follows the name VERSION in a message: its parameters, and the rest.
 fn after_product(message: &[u8]) -> Option<&[u8]>
     ensures { FollowsProduct message.now (option_copied result) }
 {

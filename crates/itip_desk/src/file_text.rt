@@ -1,4 +1,4 @@
-//! The text of a desk's file: canonical messages, of which two lines have parameters that tell a tick and what moved when.
+//! The text of a desk's file: canonical messages in which parameters of PRODID and VERSION tell the tick and what moved when.
 ghost use Rattle.std.specs.Prelude.{◌≡◌, ◌++◌, OnOk};
 ghost use Rattle.itip_desk.specs.DeskFile.{message_text, product_text, version_text, parameter_text};
 ghost use Rattle.itip_desk.specs.DeskFile.{product_parameters, tick_parameters};
@@ -9,37 +9,37 @@ use std::alloc::AllocError;
 /// What each message begins with, up to the parameters of PRODID.
 pub(crate) const BEGINS: &str = "BEGIN:VCALENDAR\r\nPRODID";
 
-/// What follows these up to the parameters of VERSION.
+/// What is between the parameters of PRODID and those of VERSION.
 pub(crate) const PRODUCT: &str = ":-//itipdesk//1//EN\r\nVERSION";
 
-/// What follows these.
+/// What follows the parameters of VERSION on its line.
 const VERSION: &str = ":2.0\r\n";
 
-// How many octets of a canonical message are written anew.
+// How many bytes at the front of a canonical message are written anew: the lines up to VERSION.
 const HEAD_OCTETS: usize = 57;
 
 /// The form that is written and read.
 pub(crate) const FORM: u64 = 1;
 
-// The parameters of the first message: the form, how many messages there are, and the tick of the desk.
+// The parameters of the first message: the form, the number of messages, and the tick of the desk.
 pub(crate) const FORM_NAME: &str = ";X-FORM=";
 
 pub(crate) const ITEMS_NAME: &str = ";X-ITEMS=";
 
 pub(crate) const TICK_NAME: &str = ";X-TICK=";
 
-/// The parameter of each message: the tick at which its UID moved last.
+/// The parameter of each message: the tick at which its UID last moved.
 pub(crate) const MOVED_NAME: &str = ";X-MOVED=";
 
-/// What the first message of a desk's file tells of the desk.
+/// What the first message of a desk's file tells about the desk.
 #[derive(Clone, Copy)]
 pub(crate) struct FileHead {
-    /// How many messages there are.
+    /// The number of messages.
     pub(crate) items: usize,
     pub(crate) tick: u64,
 }
 
-/// Appends the message of an item, with the head in the first message of a file. If an allocation fails a part of it may be there.
+/// Appends the message of an item, with the head in a file's first one. If an allocation fails, part of it may have been appended.
 pub(crate) fn append_message(
     file: &mut Vec<u8>,
     head: Option<FileHead>,
@@ -57,7 +57,7 @@ pub(crate) fn append_message(
     Ok(())
 }
 
-/// Appends the lines up to that of PRODID, and the name of VERSION.
+/// Appends the lines up to PRODID, and the name VERSION.
 fn append_product(file: &mut Vec<u8>, head: Option<FileHead>) -> Result<(), AllocError>
     ensures { OnOk result (file.new.items ≡ file.old.items ++ product_text head) }
 {
@@ -78,7 +78,7 @@ fn append_form(file: &mut Vec<u8>, head: Option<FileHead>) -> Result<(), AllocEr
     append_parameter(file, ITEMS_NAME, head.items as u64)
 }
 
-/// Appends what is left of the line of VERSION.
+/// Appends the rest of the VERSION line.
 fn append_version(file: &mut Vec<u8>, head: Option<FileHead>, moved: u64) -> Result<(), AllocError>
     ensures { OnOk result (file.new.items ≡ file.old.items ++ version_text head moved) }
 {

@@ -1,4 +1,4 @@
-//! A desk as a file.
+//! Writing a desk as a file.
 ghost use Rattle.std.specs.Prelude.{◌≡◌, ◌≢◌, ◌↔◌, ◌++◌, ℕ, List, Some, IsTrue, IfOk, OnOk, OnErr, IfErr, IfSome, IfNone};
 ghost use Rattle.itip_streams.specs.Written.{AppendsFront};
 ghost use Rattle.itip_desk.specs.DeskFile.{IsFileOf, WritesFile, moved_at, message_text, head_of};
@@ -11,9 +11,11 @@ use itip_streams::{StreamFault, write_if_many, write_output};
 use std::alloc::{AllocError, Global};
 use std::io::Write;
 
-/// Writes a desk as a file: its compaction, in which X- parameters tell its tick and when each UID moved last (our own format). A
-/// desk that keeps nothing has the empty file. What is written is a compaction to whoever reads messages, and the desk to
-/// [`read_desk`](crate::read_desk). After a fault a front of it was written.
+/// Writes a desk as a file: its compaction, in which X- parameters tell its tick and when each UID last moved (our own format). A
+/// desk that keeps nothing has the empty file. To a reader of messages the file is a compaction; [`read_desk`](crate::read_desk)
+/// reads it back as the desk, if that began empty at tick 0.
+///
+/// Fails with [`StreamFault::Write`] or [`StreamFault::Memory`]; a prefix of the file has been written then.
 pub fn write_desk<W: Write>(alloc: Global, desk: &Desk, writer: &mut W) -> Result<(), StreamFault>
     ensures all { OnOk result (WritesFile desk.now (W.contents writer.old) (W.contents writer.new)) }
     ensures front { OnErr result ((octets : List ℕ) → IsFileOf desk.now octets →
@@ -31,7 +33,7 @@ pub fn write_desk<W: Write>(alloc: Global, desk: &Desk, writer: &mut W) -> Resul
     write_output(writer, kept.as_slice())
 }
 
-/// Whether octets are the file of a desk. Nothing but one message is held.
+/// Whether the bytes are the file of a desk. The file is made and compared one message at a time.
 pub(crate) fn is_file_of(alloc: Global, octets: &[u8], desk: &Desk) -> Result<bool, AllocError>
     ensures { IfOk result (λ is. IsTrue is ↔ IsFileOf desk.now octets.now) }
 {
@@ -48,7 +50,7 @@ pub(crate) fn is_file_of(alloc: Global, octets: &[u8], desk: &Desk) -> Result<bo
     Ok(rest.is_empty())
 }
 
-/// What follows the message of an item, where octets begin with that.
+/// What follows the message of an item, if the bytes begin with it.
 fn after_message<'a>(
     alloc: Global,
     octets: &'a [u8],
@@ -66,7 +68,7 @@ fn after_message<'a>(
     Ok(behind(octets, message.as_slice()))
 }
 
-/// Appends the message of an item that the desk keeps. If an allocation fails a part of it may be there.
+/// Appends the message of an item that the desk keeps. If an allocation fails, part of it may have been appended.
 fn append_item(
     file: &mut Vec<u8>,
     head: Option<FileHead>,

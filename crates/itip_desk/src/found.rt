@@ -1,4 +1,4 @@
-//! The UIDs that are found in an index.
+//! Finding UIDs in an index.
 ghost use Rattle.std.specs.Prelude.{◌≡◌, ◌≤ℤ◌, ◌<ℤ◌, ℕ, ℤ, List, [], map, true, IsTrue, ◌↔◌, IfOk, IsOk, OnOk};
 ghost use Rattle.std.specs.List.{Contains};
 ghost use Rattle.std.specs.BTreeMap.Range.{IsLeBy};
@@ -20,8 +20,8 @@ use itip_view::Window;
 use std::alloc::{AllocError, Global};
 use std::collections::BTreeSet;
 
-/// The UIDs found by a day of the window, or in each window, perhaps more than once. No other entry is looked at. Where there is none, no
-/// memory is asked for.
+/// The UIDs found by a day of the window, or in every window, perhaps more than once. No other entries are looked at. Allocates
+/// nothing if there are no entries.
 pub(crate) fn find_in<'a>(
     alloc: Global,
     days: &'a BTreeSet<DayEntry>,
@@ -42,7 +42,7 @@ pub(crate) fn find_in<'a>(
     Ok(uids)
 }
 
-/// Adds the UIDs found so. A bound needs an item, and any will do.
+/// Adds the UIDs that are found this way. A bound needs an item, and any item will do.
 fn add_in<'a>(
     days: &'a BTreeSet<DayEntry>,
     any: &DayEntry,
@@ -63,8 +63,8 @@ fn add_in<'a>(
     find_between(days, from, to, uids)
 }
 
-/// The UIDs whose items name the attendee of an address, perhaps more than once. No other entry is looked at but those of attendees
-/// of the same number. Where there is none, no memory is asked for.
+/// The UIDs with an item that names the attendee with this address, perhaps more than once. Only entries of attendees with the same
+/// number are looked at. Allocates nothing if there are no entries.
 pub(crate) fn find_named<'a>(
     alloc: Global,
     names: &'a BTreeSet<NameEntry>,
@@ -83,7 +83,7 @@ pub(crate) fn find_named<'a>(
     Ok(uids)
 }
 
-/// Adds the UIDs found so. A bound needs an item, and any will do.
+/// Adds the UIDs that are found this way. A bound needs an item, and any item will do.
 fn add_named<'a>(
     names: &'a BTreeSet<NameEntry>,
     any: &NameEntry,
@@ -100,7 +100,7 @@ fn add_named<'a>(
     find_naming(names, from, to, address, uids)
 }
 
-/// Adds the UIDs of the entries from `from` up to `to`, which is left out.
+/// Adds the UIDs of the entries from `from` up to, but not including, `to`.
 fn find_between<'a>(
     days: &'a BTreeSet<DayEntry>,
     from: DayEntry,
@@ -118,7 +118,7 @@ fn find_between<'a>(
     Ok(())
 }
 
-/// The same of those of which an item names the attendee of an address.
+/// Adds the UIDs of the entries from `from` up to, but not including, `to` whose item names the attendee with this address.
 fn find_naming<'a>(
     names: &'a BTreeSet<NameEntry>,
     from: NameEntry,
@@ -140,7 +140,7 @@ fn find_naming<'a>(
     Ok(())
 }
 
-/// Whether an item names the attendee of an address.
+/// Whether an ATTENDEE line of an item names the attendee with this address.
 fn names_attendee(item: &Item, address: &str) -> bool
     ensures { IsTrue result ↔ NamesLine address.now item.now }
 {

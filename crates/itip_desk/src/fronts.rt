@@ -1,10 +1,10 @@
-//! What octets begin with.
+//! Texts and numbers that bytes begin with.
 ghost use Rattle.std.specs.Prelude.{◌≡◌, ◌++◌, ◌≤◌, ℕ, List, true, length, take, drop, IfSome, IfNone};
 ghost use Rattle.std.specs.List.{list_all};
 ghost use Rattle.itip_desk.specs.DeskFile.{HasNumber, is_digit, digits_before};
 ghost use Rattle.itip_desk.specs.FileReading.{IsBehind, IsValue};
 
-/// What follows a beginning of octets, where they begin so.
+/// What follows `begins`, if the bytes begin with it.
 pub(crate) fn behind<'a>(octets: &'a [u8], begins: &[u8]) -> Option<&'a [u8]>
     ensures found { IfSome result (λ after. octets.now ≡ begins.now ++ after.now) }
     ensures none { IfNone result ((after : List ℕ) → octets.now ≡ begins.now ++ after → ⊥) }
@@ -12,7 +12,7 @@ pub(crate) fn behind<'a>(octets: &'a [u8], begins: &[u8]) -> Option<&'a [u8]>
     octets.strip_prefix(begins)
 }
 
-/// The number behind a name at the front of octets, and what follows it.
+/// The number after a name that the bytes begin with, and what follows it. `None` if there is none below 2^64.
 pub(crate) fn number_behind<'a>(octets: &'a [u8], name: &str) -> Option<(u64, &'a [u8])>
     ensures found { IfSome result (λ found. HasNumber octets.now name.now found.0 found.1.now) }
     ensures none { IfNone result ((number : ℕ) (after : List ℕ) → HasNumber octets.now name.now number after → ⊥) }
@@ -23,7 +23,7 @@ pub(crate) fn number_behind<'a>(octets: &'a [u8], name: &str) -> Option<(u64, &'
     Some((number, after))
 }
 
-/// The value of one digit or more, where it is below 2^64.
+/// The value of these digits. `None` if there are none, or the value is not below 2^64.
 fn number_of(digits: &[u8]) -> Option<u64>
     ensures found { IfSome result (λ number. list_all is_digit digits.now ≡ true → IsValue digits.now number) }
     ensures none { IfNone result (list_all is_digit digits.now ≡ true → (number : ℕ) → IsValue digits.now number → ⊥) }
@@ -34,7 +34,7 @@ fn number_of(digits: &[u8]) -> Option<u64>
     text.parse::<u64>().ok()
 }
 
-/// The digits that octets begin with, and what follows them.
+/// The digits that the bytes begin with, and what follows them.
 fn split_digits(octets: &[u8]) -> (&[u8], &[u8])
     ensures digits { result.0.now ≡ take (digits_before octets.now) octets.now }
     ensures after { result.1.now ≡ drop (digits_before octets.now) octets.now }
@@ -43,7 +43,7 @@ fn split_digits(octets: &[u8]) -> (&[u8], &[u8])
     (&octets[..end], &octets[end..])
 }
 
-/// What follows a number behind a name, where octets begin with one; otherwise all of them.
+/// What follows a name and a number, if the bytes begin with these; otherwise all of the bytes.
 pub(crate) fn behind_number<'a>(octets: &'a [u8], name: &str) -> &'a [u8]
     ensures { IsBehind octets.now name.now result.now }
 {
@@ -53,7 +53,7 @@ pub(crate) fn behind_number<'a>(octets: &'a [u8], name: &str) -> &'a [u8]
     }
 }
 
-/// How many digits octets begin with.
+/// The number of digits that the bytes begin with.
 fn digits(octets: &[u8]) -> usize
     ensures within { result ≤ length octets.now }
     ensures exact { result ≡ digits_before octets.now }

@@ -1,4 +1,4 @@
-//! An index of kept items, and how the entries of items come and go.
+//! An index of kept items, and how the entries of items are added and removed.
 ghost use Rattle.std.specs.Prelude.{◌≡◌, ◌||◌, ◌&&◌, not, OnOk, OnErr, IfOk};
 ghost use Rattle.itip_items.specs.KeyParts.{uid_of};
 ghost use Rattle.itip_items.specs.declared.item.Item.{Item};
@@ -16,17 +16,17 @@ use itip_view::{has_rows, row_days};
 use std::alloc::{AllocError, Global};
 use std::collections::BTreeSet;
 
-/// Kept items by what they are found by.
+/// Kept items, by the days and the attendees by which they are found.
 #[derive(Debug, Drop)]
 pub(crate) struct Index {
-    /// By the days on which their rows can stand.
+    /// By the days on which their rows can be.
     pub(crate) days: BTreeSet<DayEntry>,
     /// By the attendees that their rows can show.
     pub(crate) names: BTreeSet<NameEntry>,
 }
 
 impl Index {
-    /// An index of no item. It takes no memory.
+    /// An empty index. Allocates nothing.
     pub(crate) fn empty(alloc: Global) -> Index
         ensures { IsEmptyIndex result }
     {
@@ -37,7 +37,7 @@ impl Index {
     }
 }
 
-/// An item as the owner of entries.
+/// The owner of the entries of an item.
 pub(crate) fn owner_of(item: &SharedItem) -> Result<Owner, AllocError>
     ensures { IfOk result (λ owner. owner ≡ owner_of item.now) }
 {
@@ -46,7 +46,7 @@ pub(crate) fn owner_of(item: &SharedItem) -> Result<Owner, AllocError>
     Ok(Owner { uid, item })
 }
 
-/// Puts in the entries of an item. After a refusal some may be there.
+/// Adds the entries of an item. If an allocation fails, some of them may have been added.
 pub(crate) fn put_in(index: &mut Index, item: &SharedItem) -> Result<(), AllocError>
     ensures ok { OnOk result ((e : IndexEntry) → has index.new e ≡ (has index.old e || is_in (entries_of item.now) e)) }
     ensures widens { Widens (is_in (entries_of item.now)) index.old index.new }
@@ -59,7 +59,7 @@ pub(crate) fn put_in(index: &mut Index, item: &SharedItem) -> Result<(), AllocEr
     put_lines(index, item, uid)
 }
 
-/// Puts in the entry of the day on which the rows of an item can stand, or of any day.
+/// Adds the entry of an item by day, if it has one. If an allocation fails, the index is unchanged.
 fn put_day(index: &mut Index, item: &SharedItem, uid: u32) -> Result<(), AllocError>
     requires { uid ≡ uid_number (uid_of item.now.key) }
     ensures ok { OnOk result ((e : IndexEntry) → has index.new e ≡ (has index.old e || is_in (day_entries item.now) e)) }
@@ -82,7 +82,7 @@ fn put_mark(index: &mut Index, item: &SharedItem, uid: u32, mark: Mark) -> Resul
     Ok(())
 }
 
-/// Puts in those of the lines of attendees of an item.
+/// Adds the entries of the ATTENDEE lines of an item. If an allocation fails, some of them may have been added.
 fn put_lines(index: &mut Index, item: &SharedItem, uid: u32) -> Result<(), AllocError>
     requires { uid ≡ uid_number (uid_of item.now.key) }
     ensures ok { OnOk result ((e : IndexEntry)
@@ -109,7 +109,7 @@ fn put_name(index: &mut Index, item: &SharedItem, uid: u32, attendee: u32) -> Re
     Ok(())
 }
 
-/// Takes out the entries of an item, whose owner is given for this. It takes no memory.
+/// Removes the entries of an item. Its owner is passed in, so that nothing is allocated.
 pub(crate) fn take_out(index: &mut Index, item: &Item, owner: Owner)
     requires { owner ≡ owner_of item.now }
     ensures { (e : IndexEntry) → has index.new e ≡ (has index.old e && not (is_in (entries_of item.now) e)) }
@@ -122,7 +122,7 @@ pub(crate) fn take_out(index: &mut Index, item: &Item, owner: Owner)
     take_lines_out(index, item, owner);
 }
 
-/// Takes out the entry of the day of an item, and gives the owner back.
+/// Removes the entry of an item by day, if it has one, and returns the owner.
 fn take_day_out(index: &mut Index, item: &Item, owner: Owner) -> Owner
     requires { owner ≡ owner_of item.now }
     ensures owner { result ≡ owner }
@@ -140,7 +140,7 @@ fn take_day_out(index: &mut Index, item: &Item, owner: Owner) -> Owner
     owner
 }
 
-/// Takes out those of the lines of attendees of an item.
+/// Removes the entries of the ATTENDEE lines of an item.
 fn take_lines_out(index: &mut Index, item: &Item, owner: Owner)
     requires { owner ≡ owner_of item.now }
     ensures { (e : IndexEntry)

@@ -18,7 +18,7 @@ use itip_view::Window;
 use std::alloc::{AllocError, Global};
 use std::marker::Model;
 
-/// The kept items, and an index of them, which is the one worked out from them. Contracts see it as the list of these items, each once.
+/// The kept items, and the index that follows from them. Contracts see it as the list of these items, each once.
 #[derive(Debug, Drop)]
 pub(crate) struct IndexedState {
     alloc: Global,
@@ -44,7 +44,7 @@ impl Model for IndexedState {
     ghost invariant = { λ s. IsIndexOf s.state s.index };
 }
 
-/// An item that can come or go, and what takes its entries out.
+/// An item that may be added or removed, and the owner that is needed to remove its entries.
 #[derive(Drop)]
 struct Change {
     item: SharedItem,
@@ -53,7 +53,7 @@ struct Change {
 }
 
 impl IndexedState {
-    /// The state of nothing heard. It takes no memory.
+    /// The state of a desk that has heard nothing. Allocates nothing.
     pub(crate) fn empty(alloc: Global) -> IndexedState
         ensures { result ≡ [] }
     {
@@ -71,7 +71,7 @@ impl IndexedState {
         &self.state
     }
 
-    /// The UIDs whose rows can stand in a window, perhaps more than once. Where nothing is kept, it takes no memory.
+    /// The UIDs that can have rows in a window, perhaps more than once. Allocates nothing if nothing is kept.
     pub(crate) fn uids_in(&self, window: Window) -> Result<Vec<&Uid>, AllocError>
         ensures uids { IfOk result (λ uids. (uid : List ℕ) → HasRowsIn self.now window uid → Contains (map (λ u. u.now) uids.items) uid) }
         ensures none { self.now ≡ [] → IfOk result (λ uids. uids.items ≡ []) }
@@ -80,7 +80,7 @@ impl IndexedState {
         find_in(self.alloc, &self.index.days, window)
     }
 
-    /// The UIDs whose rows can show the attendee of an address. Where nothing is kept, it takes no memory.
+    /// The UIDs whose rows can show the attendee with this address, perhaps more than once. Allocates nothing if nothing is kept.
     pub(crate) fn uids_naming(&self, address: &str) -> Result<Vec<&Uid>, AllocError>
         ensures uids { IfOk result (λ uids. (uid : List ℕ)
             → NamesIn self.now (attendee_key address.now) uid → Contains (map (λ u. u.now) uids.items) uid) }
@@ -90,7 +90,7 @@ impl IndexedState {
         find_named(self.alloc, &self.index.names, address)
     }
 
-    /// Hears these items. A refusal (out of memory) changes nothing.
+    /// Hears these items. If an allocation fails, nothing changes.
     pub(crate) fn hear(&mut self, news: &[&SharedItem]) -> Result<(), AllocError>
         ensures ok { OnOk result (AreKept self.new (self.old ++ map (λ item. item.now) news.now)) }
         ensures err { OnErr result (self.new ≡ self.old) }
@@ -103,7 +103,7 @@ impl IndexedState {
         }
     }
 
-    /// Hears items that no row can be governed by. The index stays as it is.
+    /// Hears items that can't govern a row. The index stays as it is.
     fn hear_others(&mut self, news: &[&SharedItem]) -> Result<(), AllocError>
         requires { AreOfRows [] (map (λ item. item.now) news.now) }
         ensures ok { OnOk result (AreKept self.new (self.old ++ map (λ item. item.now) news.now)) }
@@ -113,10 +113,10 @@ impl IndexedState {
         self.state.hear(news)
     }
 
-    /// Hears these items, of which those that are found can govern rows.
+    /// Hears the news, among which `found` are the items that can govern rows.
     ///
-    /// The index grows before anything is heard, and loses the entries of what is not kept after that. What is asked for is in
-    /// proportion to these items and to those that can give way to them.
+    /// The index grows before anything is heard, and then loses the entries of what is not kept. Memory is in proportion to these
+    /// items and to those that can give way to them.
     fn hear_rows(&mut self, news: &[&SharedItem], found: &[&SharedItem]) -> Result<(), AllocError>
         requires { AreOfRows (map (λ item. item.now) found.now) (map (λ item. item.now) news.now) }
         ensures ok { OnOk result (AreKept self.new (self.old ++ map (λ item. item.now) news.now)) }
@@ -131,7 +131,7 @@ impl IndexedState {
     }
 }
 
-/// Those of these items that rows can be governed by: of to-dos as a whole, of instances, and of instances and all after them.
+/// The items among these that can govern rows: those of to-dos as a whole, of instances and of ranges.
 fn of_rows<'a>(alloc: Global, news: &[&'a SharedItem]) -> Result<Vec<&'a SharedItem>, AllocError>
     ensures { IfOk result (λ found. AreOfRows (map (λ item. item.now) found.items) (map (λ item. item.now) news.now)) }
 {
@@ -153,7 +153,7 @@ fn is_of_rows(key: &Key) -> bool
     }
 }
 
-/// The items that can give way, and those that can come.
+/// The items that can give way, and those that can be added.
 fn changes_of(
     alloc: Global,
     giving: Vec<SharedItem>,
@@ -181,7 +181,7 @@ fn push_change(changes: &mut Vec<Change>, item: SharedItem) -> Result<(), AllocE
     Ok(())
 }
 
-/// Puts in the entries of the items that are found, and hears the news. After a refusal, for which nothing is heard, entries may be there.
+/// Adds the entries of `found`, and hears the news. If an allocation fails, nothing is heard, but entries may have been added.
 fn grow_and_hear(
     index: &mut Index,
     state: &mut State,
@@ -199,7 +199,7 @@ fn grow_and_hear(
     state.hear(news)
 }
 
-/// Takes out the entries of those items that are not kept. It takes no memory.
+/// Removes the entries of the items that are not kept. Allocates nothing.
 fn settle(index: &mut Index, state: &State, changes: Vec<Change>)
     ensures { HasSettled state.now (map (λ c. c.item) changes.items) index.old index.new }
 {

@@ -1,4 +1,4 @@
-//! The laws of convergence and of deltas. They hold with no code: each function is empty.
+//! The laws of convergence and of deltas. Each function is empty: its contract is the law.
 ghost use Rattle.std.specs.Prelude.{◌≡◌, ◌⊎◌, List, ◌++◌, ℕ};
 ghost use Rattle.itip_items.specs.declared.item.Item.{Item};
 ghost use Rattle.itip_state.specs.Kept.{AreKept, SameItems};
@@ -10,15 +10,15 @@ ghost use Rattle.itip_desk.specs.Desk.{Shown, IsDeskOf, IsDeltaOf};
 ghost use Rattle.itip_desk.specs.DeskFile.{TellsDesk, AreAlike, RefusesFile};
 ghost use Rattle.itip_desk.specs.declared.refusal.FileRefusal.{FileRefusal};
 
-/// Desks that have heard the same items keep the same items, however these came: late, repeated or in another order (our own rule).
+/// Desks that have heard the same items keep the same items, however these arrived: late, repeated or in any order (our own rule).
 pub fn desks_converge()
     ensures { (steps others : List (List Item)) (start beginning : ℕ) (desk other : Shown) →
         IsDeskOf steps start desk → IsDeskOf others beginning other →
         SameItems (heard steps) (heard others) → SameItems desk.kept other.kept }
 {}
 
-/// An older state of a desk, joined with what the desk gives as its delta since then, is what the desk keeps now; so it
-/// is joined with all that the desk has heard of the UIDs that moved since then (our own rule).
+/// An older state of a desk, joined with the desk's delta since then, is what the desk keeps now. The same holds with everything that
+/// the desk has heard of the UIDs that moved since then in place of the delta (our own rule).
 pub fn delta_brings_up_to_date()
     ensures kept { (steps more : List (List Item)) (start : ℕ) (older newer : Shown) (delta : List Item) →
         IsDeskOf steps start older → IsDeskOf (steps ++ more) start newer → IsDeltaOf newer older.tick delta →
@@ -28,12 +28,12 @@ pub fn delta_brings_up_to_date()
         AreKept newer.kept (older.kept ++ told) }
 {}
 
-/// What was written of a batch is read as this batch.
+/// What is written of a batch is read back as this batch.
 pub fn delta_read_again()
     ensures { (batch : List Item) → AscendOctets batch → ReadsDelta (delta_octets batch) batch }
 {}
 
-/// Octets are read as one batch, or refused for one cause, and not both.
+/// Bytes are read as one batch or refused for one cause, and never both.
 pub fn one_delta()
     ensures some { (bytes : List ℕ)
         → ((batch : List Item) × ReadsDelta bytes batch) ⊎ ((refusal : MessageRefusal) × RefusesDelta bytes refusal) }
@@ -44,9 +44,9 @@ pub fn one_delta()
         → ReadsDelta bytes batch → RefusesDelta bytes refusal → ⊥ }
 {}
 
-/// The file of a desk is read as that desk: as one that keeps the same, is at the same tick and has the same last moves, so that it
-/// is the desk of the same steps and sends the same since every tick (our own rule). Whoever reads messages takes the file for the
-/// compaction of what the desk keeps.
+/// The file of a desk is read as that desk: as one that keeps the same items, is at the same tick and has the same last moves, so
+/// that it is the desk of the same steps and has the same delta since every tick (our own rule). A reader of messages reads the file
+/// as the compaction of what the desk keeps.
 pub fn desk_read_again()
     ensures alike { (octets : List ℕ) (desk other : Shown) → TellsDesk octets desk → TellsDesk octets other → AreAlike desk other }
     ensures apart { (octets : List ℕ) (desk : Shown) (refusal : FileRefusal) → TellsDesk octets desk → RefusesFile octets refusal → ⊥ }

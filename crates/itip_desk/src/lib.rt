@@ -1,5 +1,5 @@
-//! A desk: it hears batches of items, keeps what the rules keep of them, and tells what moved since. A batch is written
-//! as a delta, and octets are read as one. A desk is written as a file, and read again.
+//! A desk: it hears batches of items, keeps what the rules keep of them, and tells what has moved since a tick. A batch is written as
+//! a delta, and read back from one. A desk is written as a file, and read back from it.
 #![tactic(auto)]
 
 mod batch;

@@ -4,8 +4,8 @@ ghost use Rattle.itip_desk.specs.Listed.{head_text};
 
 use std::alloc::AllocError;
 
-/// Appends a line with a word, the number of the desk and how many rows there are: `list D rows N`. If an allocation fails a part
-/// of it may be there.
+/// Appends a line with a word, the number of the desk and the number of rows: `list D rows N`. If an allocation fails, part of it may
+/// have been appended.
 pub fn write_head(
     word: &str,
     desk: u64,

@@ -20,9 +20,9 @@ use std::mem;
 #[derive(Debug, Drop)]
 pub(crate) struct MovedUids {
     alloc: Global,
-    /// The tick that each carries; 0 where it has but a place.
+    /// The tick that each carries, or 0 for a place that carries nothing yet.
     ticks: BTreeMap<Uid, u64>,
-    /// The same by tick. What a UID carried before may stand here too, until it is found to be past.
+    /// The same by tick. Ticks that a UID doesn't carry, or no longer carries, may be here too; they are passed over.
     order: BTreeSet<(u64, Uid)>,
 }
 
@@ -39,7 +39,7 @@ impl Model for MovedUids {
 }
 
 impl MovedUids {
-    /// No UID. It takes no memory.
+    /// No UIDs. Allocates nothing.
     pub(crate) fn new(alloc: Global) -> MovedUids
         ensures { result.carried ≡ [] }
     {
@@ -50,7 +50,7 @@ impl MovedUids {
         }
     }
 
-    /// The UIDs that moved, each with the tick of its last move: of several the last that is given.
+    /// The UIDs of these moves, each with the tick of the last of its moves in the list.
     pub(crate) fn of_moves(alloc: Global, moves: Vec<(Uid, u64)>) -> Result<MovedUids, AllocError>
         requires { All (λ (move : List ℕ × ℕ). 0 < move.1) moves.items }
         ensures ticks { IfOk result (λ moved. AreTicks moved.carried) }
@@ -68,14 +68,14 @@ impl MovedUids {
         })
     }
 
-    /// The tick of a UID's last move.
+    /// The tick that a UID carries, if it is here.
     pub(crate) fn tick_of(&self, uid: &Uid) -> Option<u64>
         ensures { result ≡ tick_at self.now.carried uid.now }
     {
         self.ticks.get(uid).copied()
     }
 
-    /// Makes what is needed for these UIDs to carry a tick. After a refusal each carries what it did.
+    /// Allocates what these UIDs need to carry a tick. If an allocation fails, each carries what it did before.
     pub(crate) fn prepare(&mut self, uids: &[Uid], tick: u64) -> Result<(), AllocError>
         requires { AreTicks self.old.carried }
         ensures places { HavePlaces uids.now self.old.carried self.new.carried }
@@ -90,7 +90,7 @@ impl MovedUids {
         Ok(())
     }
 
-    /// Takes out those of these UIDs that have but a place.
+    /// Removes those of these UIDs that only have a place.
     pub(crate) fn take_places_back(&mut self, uids: &[Uid])
         ensures { (was : List (List ℕ × ℕ)) → IsStrictlySortedBy (slice_cmp nat_cmp) (keys_of was) → AreTicks was
             → HavePlaces uids.now was self.old.carried → self.new.carried ≡ was }
@@ -98,7 +98,7 @@ impl MovedUids {
         drop_places(&mut self.ticks, uids);
     }
 
-    /// Has these UIDs carry the tick that they were prepared for. It takes no memory.
+    /// Makes these UIDs carry the tick that they were prepared for. It can't fail: without memory to remove an old entry, that stays.
     pub(crate) fn mark(&mut self, uids: &[Uid], tick: u64)
         requires { AreReady uids.now tick self.old }
         ensures { (uid : List ℕ) → tick_at self.new.carried uid ≡ cond (is_listed uids.now uid) (Some tick) (tick_at self.old.carried uid) }
@@ -110,7 +110,7 @@ impl MovedUids {
         }
     }
 
-    /// The UIDs that carry a tick above `since`. What is behind the ticks above it is not looked at.
+    /// The UIDs that carry a tick above `since`. Entries of earlier ticks are not looked at.
     pub(crate) fn after(&self, since: u64) -> Result<Vec<&Uid>, AllocError>
         ensures { IfOk result (λ uids. (uid : List ℕ) → Contains (map (λ u. u.now) uids.items) uid ↔ CarriesAfter self.now.carried since uid) }
     {
@@ -125,8 +125,7 @@ impl MovedUids {
         Ok(uids)
     }
 
-    /// What is true of it always: what each UID carries stands in the order of UIDs. The call does nothing; a prover who makes it
-    /// learns this.
+    /// States what is always true: what the UIDs carry is sorted by UID, each once. It does nothing; a proof calls it to learn this.
     pub(crate) fn lawful(&self)
         ensures { IsStrictlySortedBy (slice_cmp nat_cmp) (keys_of self.now.carried) }
     {
@@ -134,7 +133,7 @@ impl MovedUids {
     }
 }
 
-/// Has a UID carry a tick.
+/// Makes a UID carry a tick.
 fn put_move(
     order: &mut BTreeSet<(u64, Uid)>,
     ticks: &mut BTreeMap<Uid, u64>,
@@ -153,7 +152,7 @@ fn put_move(
     Ok(())
 }
 
-/// Puts in these UIDs under a tick.
+/// Adds these UIDs under a tick.
 fn put_moves(order: &mut BTreeSet<(u64, Uid)>, uids: &[Uid], tick: u64) -> Result<(), AllocError>
     ensures all { OnOk result ((uid : List ℕ) → is_listed uids.now uid ≡ true → has_move order.new.keys (tick, uid) ≡ true) }
     ensures keeps { (move : ℕ × List ℕ) → has_move order.old.keys move ≡ true → has_move order.new.keys move ≡ true }
@@ -179,7 +178,7 @@ fn put_places(ticks: &mut BTreeMap<Uid, u64>, uids: &[Uid]) -> Result<(), AllocE
     Ok(())
 }
 
-/// Takes out those of these UIDs that have but a place.
+/// Removes those of these UIDs that only have a place.
 fn drop_places(ticks: &mut BTreeMap<Uid, u64>, uids: &[Uid])
     requires { IsOrdered (slice_cmp nat_cmp) ticks.old }
     ensures ordered { IsOrdered (slice_cmp nat_cmp) ticks.new }
@@ -204,14 +203,14 @@ fn carries(ticks: &BTreeMap<Uid, u64>, uid: &Uid, tick: u64) -> bool
     }
 }
 
-/// Whether a UID carries this tick, which is above `since`.
+/// Whether a UID carries this tick, and the tick is above `since`.
 fn carries_after(ticks: &BTreeMap<Uid, u64>, uid: &Uid, tick: u64, since: u64) -> bool
     ensures { IsTrue result ↔ ((tick_at ticks.now.entries uid.now ≡ Some tick) × (since < tick)) }
 {
     tick > since && carries(ticks, uid, tick)
 }
 
-/// Has a UID that has a place carry a tick; gives the one that it carried.
+/// Makes a UID carry a tick, and returns what it carried before. A UID without a place is left without one, and `None` returned.
 fn set(ticks: &mut BTreeMap<Uid, u64>, uid: &Uid, tick: u64) -> Option<u64>
     requires { IsOrdered (slice_cmp nat_cmp) ticks.old }
     ensures ordered { IsOrdered (slice_cmp nat_cmp) ticks.new }
@@ -224,7 +223,7 @@ fn set(ticks: &mut BTreeMap<Uid, u64>, uid: &Uid, tick: u64) -> Option<u64>
     Some(mem::replace(place, tick))
 }
 
-/// Takes a UID out where it stood under another tick than that which it carries now, if the memory for that is there.
+/// Removes a UID from under the tick that it carried before, unless it carries that now. Without memory for this it stays.
 fn forget(order: &mut BTreeSet<(u64, Uid)>, before: u64, uid: &Uid, tick: u64)
     ensures { (move : ℕ × List ℕ) → has_move order.old.keys move ≡ true
         → (move.1 ≢ uid.now) ⊎ (move.0 ≡ tick) → has_move order.new.keys move ≡ true }

@@ -1,4 +1,4 @@
-//! Numbers that stand for texts in an index: they take no memory of their own, and are compared at once.
+//! Numbers that stand for texts in an index: they need no memory of their own, and compare in one step.
 ghost use Rattle.std.specs.Prelude.{◌≡◌, ◌<◌};
 ghost use Rattle.itip_todo.specs.Table.{attendee_key};
 ghost use Rattle.itip_desk.specs.Numbers.{number_with, text_number, uid_number};
@@ -14,7 +14,7 @@ pub(crate) fn uid_number(uid: &str) -> u32
     number + 1
 }
 
-/// The number of the attendee of an address: that of its key.
+/// The number of the attendee with this address: that of the attendee's key.
 pub(crate) fn attendee_number(address: &str) -> u32
     ensures { result ≡ text_number (attendee_key address.now) }
 {

@@ -1,4 +1,4 @@
-//! Why the program refuses what it was asked for.
+//! Why the program refuses what it is asked for.
 ghost use Rattle.std.specs.Prelude.{◌≡◌, ◌++◌, OnOk};
 ghost use Rattle.itip_desk.specs.Refusals.{number_of, number_of_file, refused_text};
 
@@ -9,9 +9,10 @@ use std::fmt;
 /// Why the file of a desk is not read, or not written.
 #[derive(Clone, Copy, PartialEq, Eq, Debug)]
 pub enum FileRefusal {
-    /// The file names another form than the one that is read (70).
+    /// The file names a form other than the one that is read (70).
     OtherForm,
-    /// It is the file of no desk (71): the message of this number, from 1, can be in none, or they don't fit together.
+    /// It is the file of no desk (71): the message with this number, from 1, can be in none, or, with `None`, the messages don't fit
+    /// together.
     Broken { message: Option<u64> },
     /// The file could not be written; what was there before still is (72).
     Unwritten { desk: u64 },
@@ -47,23 +48,23 @@ impl fmt::Display for FileRefusal {
 /// Why a message, a command, a job or a list is refused. Nothing has changed then. Desks and packets are numbered from 0.
 #[derive(Clone, Copy, PartialEq, Eq, Debug)]
 pub enum Refusal {
-    /// The text is no message that is read (1 to 15).
+    /// The text is not a message that is read (1 to 15).
     Message(MessageRefusal),
-    /// A UID would move at the last tick of this desk (21).
+    /// A UID would move, but this desk is at the last tick (21).
     TicksSpent { desk: u64 },
     /// There are more than 100,000 rows (31).
     TooManyRows,
-    /// There is no desk of this number (50).
+    /// There is no desk with this number (50).
     NoDesk(u64),
-    /// There is no packet of this number (51).
+    /// There is no packet with this number (51).
     NoPacket(u64),
-    /// The line is no command, or lines belong to none (60).
+    /// The line is not a command, or lines belong to no command (60).
     NoCommand,
-    /// The script has more than 16,777,216 octets (61).
+    /// The script has more than 16,777,216 bytes (61).
     LongScript,
-    /// The delta has more than 67,108,864 octets (62).
+    /// The delta has more than 67,108,864 bytes (62).
     LongDelta,
-    /// A desk is not read of a file, or not written to one (70 to 72).
+    /// A desk is not read from a file, or not written to one (70 to 72).
     File(FileRefusal),
 }
 
@@ -85,7 +86,7 @@ impl Refusal {
         }
     }
 
-    /// Appends the line `refused N`. If an allocation fails a part of it may be there.
+    /// Appends the line `refused N`. If an allocation fails, part of it may have been appended.
     pub fn append(self, output: &mut Vec<u8>) -> Result<(), AllocError>
         ensures { OnOk result (output.new.items ≡ output.old.items ++ refused_text (number_of self)) }
     {

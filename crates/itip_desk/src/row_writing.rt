@@ -1,4 +1,4 @@
-//! Rows, written a UID at a time.
+//! Writing rows, one UID at a time.
 ghost use Rattle.std.specs.Prelude.{◌≢◌, ◌++◌, List, OnOk, OnErr, IfOk, IfErr};
 ghost use Rattle.std.specs.List.{flat_map};
 ghost use Rattle.itip_streams.specs.Written.{AppendsFront, MovesOut};
@@ -12,8 +12,10 @@ use itip_streams::{StreamFault, write_if_many};
 use itip_view::{MostRows, PlainRows, Row, RowCount, RowForm, RowsByUid};
 use std::io::Write;
 
-/// Writes the rows that are left in a form, a UID at a time: they are put behind the octets that are kept to be written, and these
-/// are written once they are 65,536 or more. After a fault a front of all was written.
+/// Writes the remaining rows in a form, one UID at a time. They are appended to `kept`, the bytes that wait to be written, which are
+/// written once there are 65,536 or more; those that are left in `kept` at the end are for the caller to write.
+///
+/// Fails with [`StreamFault::Write`] or [`StreamFault::Memory`]; a prefix of what `kept` had and of the rows has been written then.
 pub fn write_rows<F: RowForm, W: Write>(
     rows: RowsByUid<'_, '_>,
     form: &F,
@@ -35,7 +37,7 @@ pub fn write_rows<F: RowForm, W: Write>(
     Ok(())
 }
 
-/// Writes some rows as [`write_rows`] does.
+/// Writes some rows as [`write_rows`] does, and fails as it does.
 pub fn write_some_rows<F: RowForm, W: Write>(
     rows: &[Row],
     form: &F,
@@ -55,8 +57,9 @@ pub fn write_some_rows<F: RowForm, W: Write>(
     Ok(())
 }
 
-/// Writes a line with a word, the number of the desk and how many rows are left, and the text of these rows; or `refused 31` where
-/// they are more than 100,000, and gives the to-do that has the most of them. It is written as [`write_rows`] does.
+/// Writes a line with a word, the number of the desk and the number of remaining rows, and then the text of these rows. If there are
+/// more than 100,000, writes `refused 31` instead, and returns the to-do that has the most of them. Writes, and fails, as
+/// [`write_rows`] does.
 pub fn write_listed<W: Write>(
     word: &str,
     desk: u64,

@@ -1,7 +1,7 @@
 -- Whom items ask, step by step, and how one is found.
-use Rattle.std.proofs.Common.{◌≡◌, ◌<◌, ◌≤◌, ◌↔◌, ◌⊎◌, ℕ, zero, suc, List, [], ◌∷◌, ◌++◌, length, get_or, refl, sym, ◌∙◌, ap, subst}
+use Rattle.std.proofs.Common.{◌≡◌, ◌<◌, ◌↔◌, ◌⊎◌, ℕ, zero, suc, List, [], ◌∷◌, ◌++◌, length, get_or, refl, sym, ◌∙◌, ap, subst}
 use Rattle.std.proofs.Common.{inl, inr, arith}
-use Rattle.std.proofs.Common.{Bool, true, false, IsTrue, Option, Some, None, Result, Ok, Err, append_assoc, append-nil}
+use Rattle.std.proofs.Common.{true, false, IsTrue, Option, Some, None, Result, Ok, Err, append_assoc, append-nil}
 use Rattle.std.specs.List.{Contains}
 use Rattle.std.specs.List.Sorted.{IsPermutation, IsSortedBy, IsSearchInRange, IsBinarySearchResult}
 use Rattle.std.specs.Option.{option_cmp}
@@ -9,14 +9,13 @@ use Rattle.std.specs.Ordering.{nat_cmp, is_lt}
 use Rattle.std.specs.Result.{is_ok}
 use Rattle.std.specs.Cmp.{IsTotalOrder, tied_itself}
 use Rattle.std.specs.Cmp.Lexicographic.{slice_cmp, options_total}
-use Rattle.std.specs.declared.cmp.Ordering.{Ordering}
-use Rattle.std.specs.declared.cmp.Ordering.TheVariants.{Less, Equal, Greater}
+use Rattle.std.specs.declared.cmp.Ordering.TheVariants.{Equal}
 use Rattle.std.proofs.lemmas.Bool.{cases_lt}
 use Rattle.std.proofs.lemmas.Cmp.{then_total, on_total, nat_list_cmp_total}
 use Rattle.std.proofs.lemmas.List.Elements.{Contains-append_cases, Contains-append_left, Contains-append_right, Contains-push}
 use Rattle.std.proofs.lemmas.List.Elements.{Contains-push_cases}
 use Rattle.std.proofs.lemmas.List.Sorted.{IsPermutation-sym, Contains-permutation, searchable_from_sorted}
-use Rattle.std.proofs.lemmas.Map.Lookups.{CmpEqualImpliesEq, exact_bytes}
+use Rattle.std.proofs.lemmas.Map.Lookups.{exact_bytes}
 use Rattle.itip_todo.specs.Table.{attendee_key}
 use Rattle.itip_todo.specs.Properties.{Property}
 use Rattle.itip_items.specs.declared.item.Item.{Item}
@@ -28,11 +27,10 @@ use Rattle.itip_report.specs.Lines.{place_cmp}
 use Rattle.itip_report.proofs.Placing.{place_total, place_exact}
 use Rattle.itip_explain.specs.Asking.{AskedPair, by_of, pair_of, pair_cmp, is_of_whole, AsksBy, IsAskedBy, IsFoundBy, AreAskings}
 use Rattle.itip_explain.specs.Asking.{AddsAskings}
-use Rattle.itip_explain.specs.Asking.{AreInOrder}
-use Rattle.itip_explain.specs.Fates.{IsNamed, HasAttendee}
+use Rattle.itip_explain.specs.Fates.{IsNamed}
 use Rattle.itip_explain.specs.declared.asked.Asking.{Asking}
 
--- nothing is added where nothing is asked
+-- nothing is added if nothing is asked
 pub adds_none : (P : Option Key → List ℕ → Type 0) (before : List Asking) → ((by : Option Key) (attendee : List ℕ) → P by attendee → ⊥) →
     AddsAskings P before before
 adds_none P before none = record {
@@ -67,7 +65,7 @@ adds_more P Q before found asking so more here only = record {
   };
 }
 
--- the lines gone through, as asked by one
+-- the attendees on these lines, as asked by `by`
 abbrev pub AsksLines : Option Key → List Property → Option Key → List ℕ → Type 0
 AsksLines by lines = λ b attendee. (b ≡ by) × IsNamed lines attendee
 
@@ -89,7 +87,7 @@ lines_more by done line before found asking by_is named so =
       | inr new ↦ inr (by_is ∙ sym q.0, named ∙ ap (λ (l : Property). attendee_key l.value) new ∙ q.1.same)
     ])
 
--- one after the other
+-- first one, then the other
 pub adds_both : (P Q R : Option Key → List ℕ → Type 0) (a b c : List Asking) → AddsAskings P a b → AddsAskings Q b c →
     ((by : Option Key) (attendee : List ℕ) → P by attendee → R by attendee)
     → ((by : Option Key) (attendee : List ℕ) → Q by attendee → R by attendee)
@@ -121,7 +119,7 @@ adds_both P Q R a b c p q from_p from_q only = record {
   };
 }
 
--- the same under another name
+-- the same, stated by an equivalent
 pub adds_as : (P Q : Option Key → List ℕ → Type 0) (a b : List Asking) → AddsAskings P a b →
     ((by : Option Key) (attendee : List ℕ) → P by attendee ↔ Q by attendee) → AddsAskings Q a b
 adds_as P Q a b p same = record {
@@ -236,7 +234,7 @@ element_at [] i h = absurd (omega (arith, h))
 element_at (x ∷ xs) zero h = (x, cons_first x xs, λ d. refl)
 element_at (x ∷ xs) (suc i) h = let r = element_at xs i (omega (arith, h)) in (r.0, cons_later x xs r.0 r.1, r.2)
 
--- a search by halves finds exactly what is there
+-- binary search finds exactly what is there
 module _ (found : List Asking) (by : Option Key) (attendee : List ℕ)
     (up : IsSortedBy (λ a b. is_lt (pair_cmp (pair_of a) (pair_of b))) found) where
   pub found_by_halves : (r : Result ℕ ℕ) → IsSearchInRange r (length found) →
@@ -263,7 +261,7 @@ module _ (found : List Asking) (by : Option Key) (attendee : List ℕ)
         ),
   )
 
--- what is found is asked, and the other way round
+-- what is found is asked, and vice versa
 pub found_asks : (items : List Item) (found : List Asking) → AreAskings (IsAskedBy items) found → (by : Option Key) (attendee : List ℕ) →
     IsFoundBy found by attendee ↔ IsAskedBy items by attendee
 found_asks items found are by attendee = (

@@ -1,5 +1,5 @@
 -- What becomes of an item, step by step.
-use Rattle.std.proofs.Common.{◌≡◌, ◌<◌, ◌≤◌, ◌↔◌, ◌⊎◌, ℕ, List, refl, sym, ◌∙◌, ap, subst, inl, inr, arith, Bool, true, false, cond}
+use Rattle.std.proofs.Common.{◌≡◌, ◌<◌, ◌≤◌, ◌↔◌, ℕ, List, refl, sym, ◌∙◌, ap, subst, inl, inr, arith, Bool, true, false, cond}
 use Rattle.std.proofs.Common.{IsTrue, Option, Some}
 use Rattle.std.proofs.Common.{None}
 use Rattle.std.specs.Prelude.{MatchOption}
@@ -8,14 +8,13 @@ use Rattle.std.specs.Ordering.{is_gt}
 use Rattle.std.specs.declared.cmp.Ordering.TheVariants.{Less, Equal, Greater}
 use Rattle.itip_moment.specs.declared.moment.Moment.{Moment}
 use Rattle.itip_items.specs.KeyParts.{uid_of}
-use Rattle.itip_items.specs.Later.{revision_cmp, IsLater}
+use Rattle.itip_items.specs.Later.{revision_cmp}
 use Rattle.itip_items.specs.declared.item.Item.{Item}
 use Rattle.itip_items.specs.declared.key.Key.{Key}
 use Rattle.itip_items.specs.declared.key.Key.TheVariants.{Series, Instance, Range, Answer, Refresh}
 use Rattle.itip_items.proofs.Revisions.{revision_exact}
 use Rattle.itip_state.specs.Held.{is_series, is_below}
 use Rattle.itip_state.specs.Kept.{IsBest, IsBestOf, IsDead, IsKept, CanDie, AreKept, AreOf, ArePart}
-use Rattle.itip_state.specs.OfUid.{UidPart}
 use Rattle.itip_state.proofs.Best.{later_than_less}
 use Rattle.itip_state.proofs.Keeping.{kept_again, series_kept}
 use Rattle.itip_state.proofs.Members.{by_bool}
@@ -47,7 +46,7 @@ part_kept uid part state heard of kept are item = (
   λ k. (are item).1 ((kept item).1 k, of item k.best.is_heard),
 )
 
--- an item that the latest of its key isn't later than is it
+-- an item that the latest of its key isn't later than is the latest
 pub is_latest : (heard : List Item) (item latest : Item) → Contains heard item → IsBest heard item.key latest →
     is_gt (revision_cmp latest item) ≡ false → latest ≡ item
 is_latest heard item latest h best not =
@@ -57,14 +56,14 @@ is_latest heard item latest h best not =
       | Greater ↦ λ e. let x : true ≡ false = sym (ap is_gt e) ∙ not in absurd (cc)
     ] refl
 
--- where the best of a key is told first
+-- the place where the best of a key is first told
 pub first_of_best : (told : List ToldItem) (item : Item) (one : ToldItem) → IsBestTold told item.key one →
     IsBest (heard_of told) item.key item →
     IsFirstToTell told item one.place
 first_of_best told item one is best =
     subst (λ (i : Item). IsFirstToTell told i one.place) (one_best (heard_of told) item.key one.item item is.best best) is.first
 
--- the items of a UID that are kept of what was told of it
+-- what is kept of what was told of a UID
 module _ (heard part : List Item) (uid : List ℕ) (about : AreOf uid heard) (kept : AreKept part heard) where
   pub same : KeepAlike part heard
   same = kept_again part heard kept
@@ -79,7 +78,7 @@ module _ (heard part : List Item) (uid : List ℕ) (about : AreOf uid heard) (ke
   series_down : (item : Item) → IsBest heard (Series uid) item → IsBest part (Series uid) item
   series_down item = series_alike heard part (alike_back part heard same) uid item
 
-  -- what is best of its key and isn't kept is dead below the series item, and what is kept isn't dead
+  -- the best item of a key is dead below the series item if it isn't kept, and isn't dead if it is kept
   pub kept_alive : (item found : Item) → IsBest heard item.key item → IsBest part item.key found → ¬ IsDead heard item
   kept_alive item found best is =
       let kept_found : IsKept heard found = (kept found).0 is.is_heard in
@@ -111,7 +110,7 @@ module _ (heard part : List Item) (uid : List ℕ) (about : AreOf uid heard) (ke
             (one_best heard (Series (uid_of item.key)) series dead.series up dead.best) ∙ below_dead heard item dead) ∙ not_so in cc;
       })) refl))
 
-  -- a kept instance or range item stands beside the series item of what was told where it stands beside that of what is kept
+  -- a kept instance or range item stands beside the series item of what was told if it stands beside that of what is kept
   pub stands_up : (item : Item) → IsKept heard item → (series : Option Item) → IsBestOf part (Series uid) series →
       StandsBesideOf series item →
       StandsUnder heard uid item.key item
@@ -130,7 +129,7 @@ module _ (heard part : List Item) (uid : List ℕ) (about : AreOf uid heard) (ke
   hidden_up item (Some t) of not =
       let up : IsBest heard (Series uid) t = series_up t of in record { best = up; not_standing = λ stands. not (stands.beside t up) }
 
-  -- the same of rows in question, and of what governs
+  -- the same for rows in question, and for what governs
   pub question_up : (id : Option Moment) (item : Item) → IsInQuestion part uid id item → IsInQuestion heard uid id item
   question_up = question_alike part heard same uid
 
@@ -149,7 +148,7 @@ module _ (heard part : List Item) (uid : List ℕ) (about : AreOf uid heard) (ke
   wanted_down : (item : Item) → IsWanted heard item → IsWanted part item
   wanted_down = reported_alike heard part (alike_back part heard same) report.Refresh
 
-  -- what is said of a kept refresh request
+  -- whether a kept refresh request waits or is answered
   pub report_up : (item : Item) (b : Bool) → IsTrue b ↔ IsWanted part item → IsWaitingOrAnswered heard item (waiting_fate b)
   report_up item true wanted = inl (wanted_up item (wanted.0 refl), refl)
   report_up item false wanted = inr (λ is. let x : false ≡ true = wanted.1 (wanted_down item is) in cc, refl)
@@ -284,7 +283,7 @@ module _ (heard part : List Item) (uid : List ℕ) (about : AreOf uid heard) (ke
       subst (λ (b : Option Key). IsAskedBy part b attendee ↔ HasAttendee governing attendee) (sym e)
       (asks_itself (governing_stays heard uid (Some at) governing (question_governs heard uid (Some at) governing is)) attendee)
 
--- the fate of a kept item by its key, where its UID is known
+-- the fate of a kept item by its key, given its UID
 module _ (told : List ToldItem) (item : Item) (became : Fate) (uid : List ℕ) (about : uid_of item.key ≡ uid) where
   of_uid : (key : Key) → item.key ≡ key → uid ≡ uid_of key
   of_uid key e = sym about ∙ ap uid_of e

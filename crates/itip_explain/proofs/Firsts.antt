@@ -1,4 +1,4 @@
--- In order, the first that has a key is the latest of it, and is told before all that are equal.
+-- In the sorted list, the first item with a key is the latest of it, and is told before all equal ones.
 use Rattle.std.proofs.Common.{◌≡◌, ◌<◌, ◌≤◌, ◌-◌, ℕ, zero, suc, List, [], ◌∷◌, ◌++◌, length, get_or, map, refl, sym, ◌∙◌, ap, subst}
 use Rattle.std.proofs.Common.{inl, inr, ◌↔◌, IsTrue, Some}
 use Rattle.std.proofs.Common.{arith, Bool, true, false, not, ◌&&◌, cond, Bor}
@@ -31,7 +31,7 @@ told_total =
     then_total (on_total (λ (one : ToldItem). one.item.key) place_total)
     (on_total (λ (one : ToldItem). one.item) (back_total revisions_total))
 
--- members of what is made of a list
+-- members of a mapped list
 module _ {X Y : Type 0} (f : X → Y) where
   pub into_map : (xs : List X) (x : X) → Contains xs x → Contains (map f xs) (f x)
   into_map xs x h = (h.0, rw (length-map xs f) h.1, get_or-map f xs h.0 x ∙ ap f h.2)
@@ -55,7 +55,7 @@ pub record PassesFirst {X : Type 0} (p : X → Bool) (xs : List X) (x : X) : Typ
   pub none : (z : X) → Contains before z → p z ≡ false
 
 module _ {X : Type 0} (p : X → Bool) where
-  -- is the first of those that pass
+  -- it is the first of those that pass
   pub first_passes : (xs : List X) (i : ℕ) (x : X) → i < length xs → x ≡ get_or xs i x → p x ≡ true →
       ((j : ℕ) (d : X) → j < i → p (get_or xs j d) ≡ false) → (rest : List X) × (filter p xs ≡ x ∷ rest)
   first_passes [] i x below is passes none = absurd (omega (arith, below))
@@ -94,7 +94,7 @@ less_is Less e = refl
 less_is Equal e = cc
 less_is Greater e = cc
 
--- what isn't before another isn't before it by key
+-- an item that isn't before another isn't before it by key either
 key_not_before : (a b : ToldItem) → is_lt (told_cmp b a) ≡ false → is_lt (place_cmp b.item.key a.item.key) ≡ false
 key_not_before a b h =
     elim (place_cmp b.item.key a.item.key) as (λ o. place_cmp b.item.key a.item.key ≡ o → is_lt o ≡ false) [
@@ -103,7 +103,7 @@ key_not_before a b h =
       | Greater ↦ λ e. refl
     ] refl
 
--- of one key it isn't later
+-- an item with the same key isn't later
 pub not_later_than : (a b : ToldItem) → b.item.key ≡ a.item.key → is_lt (told_cmp b a) ≡ false → ¬ IsLater b.item a.item
 not_later_than a b same h later =
     let tied : place_cmp b.item.key a.item.key ≡ Equal = ap (λ (k : Key). place_cmp k a.item.key) same ∙
@@ -111,7 +111,7 @@ not_later_than a b same h later =
     let x : true ≡ false = sym (ap (λ o. is_lt (ordering_then o (revision_cmp a.item b.item))) tied ∙
     ap is_lt (less_than_later b.item a.item later)) ∙ h in cc
 
--- what isn't before a key has none before it after it
+-- an item that isn't before another has a key below `k` only if the other has
 below_back : (k : Key) (a b : ToldItem) → is_lt (told_cmp b a) ≡ false → is_lt (place_cmp b.item.key k) ≡ true →
     is_lt (place_cmp a.item.key k) ≡ true
 below_back k a b h below =
@@ -124,7 +124,7 @@ below_back k a b h below =
           let x : true ≡ false = sym (ap is_lt turned) ∙ key_not_before a b h in absurd (cc)
     ] refl
 
--- a key that is neither before nor after another is the other
+-- a key that is neither before nor after another is the same
 neither : (a b : Key) → is_lt (place_cmp a b) ≡ false → is_lt (place_cmp b a) ≡ false → a ≡ b
 neither a b h g =
     elim (place_cmp a b) as (λ o. place_cmp a b ≡ o → a ≡ b) [
@@ -138,7 +138,7 @@ and_false : (a b : Bool) → b ≡ false → (a && b) ≡ false
 and_false true b e = e
 and_false false b e = refl
 
--- told items in order
+-- told items, sorted
 module _ (given sorted : List (Bor ToldItem)) (order : AreLatestFirst given sorted) where
   pub far : (i j : ℕ) (d : Bor ToldItem) → i ≤ j → j < length sorted → is_before (get_or sorted j d) (get_or sorted i d) ≡ false
   far = sorted_far is_before (ranks_by told_total (λ (one : Bor ToldItem). one.now)) sorted order.up
@@ -157,7 +157,7 @@ module _ (given sorted : List (Bor ToldItem)) (order : AreLatestFirst given sort
     parted i j d up inside h = below_back key (get_or sorted i d).now (get_or sorted j d).now (far i j d up inside) h
 
     module _ (place : ℕ) (split : IsPartitionPoint (λ one. is_below one ≡ true) (λ one. is_below one ≡ false) sorted place) where
-      -- what has the key isn't before the place
+      -- an item with the key isn't before the place
       behind : (one : Bor ToldItem) (h : Contains sorted one) → one.now.item.key ≡ key → place ≤ h.0
       behind one h about = elim (cases_lt h.0 place) [
         | inl lt ↦
@@ -217,7 +217,7 @@ module _ (given sorted : List (Bor ToldItem)) (order : AreLatestFirst given sort
               tied_itself told_total first.now in
               (λ i. not (is_lt (here i)) && not (is_lt (there i)))
 
-          -- what stands before it doesn't
+          -- what is before it doesn't
           earlier : (j : ℕ) (d : Bor ToldItem) → j < place → ties is_before first (get_or sorted j d) ≡ false
           earlier j d lt =
               let below : is_below (get_or sorted j d) ≡ true = split.0 j d (omega arith) lt in
@@ -248,7 +248,7 @@ module _ (given sorted : List (Bor ToldItem)) (order : AreLatestFirst given sort
           pub told_there : IsBestTold (map (λ one. one.now) given) key first.now
           told_there = record { best = best_there; first = first_there }
 
--- what is told has one in order, of its key
+-- for each told item there is a sorted one with its key
 pub one_of_key : (told : List ToldItem) (given sorted : List (Bor ToldItem)) → map (λ one. one.now) given ≡ told →
     AreLatestFirst given sorted → (item : Item) → Contains (heard_of told) item →
     (one : Bor ToldItem) × Contains sorted one × (one.now.item.key ≡ item.key)
@@ -262,7 +262,7 @@ equal_is Less e = cc
 equal_is Equal e = refl
 equal_is Greater e = cc
 
--- keys are one where they stand at one place
+-- keys are the same if they are at the same place
 pub at_place : (a b : Key) (found : Bool) → found ≡ is_eq (place_cmp a b) → IsTrue found ↔ (Some a ≡ Some b)
 at_place a b found e = (
   λ t. ap Some (place_exact a b (equal_is (place_cmp a b) (sym e ∙ t))),

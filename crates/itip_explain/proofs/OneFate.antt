@@ -1,5 +1,5 @@
 -- An item has one fate, and what was told has one explanation.
-use Rattle.std.proofs.Common.{◌≡◌, ◌<◌, ◌≤◌, ℕ, List, [], ◌∷◌, ◌++◌, refl, sym, ◌∙◌, ap, subst, inl, inr, arith, Option}
+use Rattle.std.proofs.Common.{◌≡◌, ◌<◌, ◌≤◌, ℕ, List, [], ◌∷◌, ◌++◌, sym, ◌∙◌, ap, subst, inl, inr, arith, Option}
 use Rattle.std.specs.List.{Contains}
 use Rattle.itip_moment.specs.declared.moment.Moment.{Moment}
 use Rattle.itip_items.specs.KeyParts.{uid_of}
@@ -31,7 +31,7 @@ module _ (item : Item) where
   tells_it : (z : ToldItem) (zs : List ToldItem) → z.item ≡ item → Contains (heard_of (z ∷ zs)) item
   tells_it z zs e = subst (Contains (heard_of (z ∷ zs))) e (cons_first z.item (heard_of zs))
 
-  -- two cuts before the first that tells an item are one
+  -- two cuts before the first that tells an item are the same
   one_cut : (front : List ToldItem) (x : ToldItem) (xs : List ToldItem) (other : List ToldItem) (y : ToldItem) (ys : List ToldItem) →
       front ++ x ∷ xs ≡ other ++ y ∷ ys → x.item ≡ item → y.item ≡ item → (Contains (heard_of front) item → ⊥)
       → (Contains (heard_of other) item → ⊥) → x ≡ y

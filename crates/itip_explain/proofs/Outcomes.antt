@@ -1,8 +1,7 @@
 -- What becomes of the items that rows show.
-use Rattle.std.proofs.Common.{◌≡◌, ◌<◌, ◌≤◌, ℕ, max, List, refl, sym, ◌∙◌, ap, subst, inl, inr, arith, Bool, true, false, Option, Some}
+use Rattle.std.proofs.Common.{◌≡◌, ◌<◌, ◌≤◌, ℕ, max, List, refl, sym, ◌∙◌, ap, subst, inl, inr, arith, true, Option, Some}
 use Rattle.std.proofs.Common.{None}
 use Rattle.std.specs.Prelude.{if◌then◌else◌}
-use Rattle.std.specs.List.{Contains}
 use Rattle.itip_moment.specs.declared.moment.Moment.{Moment}
 use Rattle.itip_todo.specs.Table.{attendee_key}
 use Rattle.itip_todo.specs.Properties.{Property}
@@ -25,7 +24,7 @@ use Rattle.itip_view.proofs.Asking.{question_governs}
 use Rattle.itip_view.proofs.Governed.{row_governed}
 use Rattle.itip_view.proofs.Sequences.{series_eff, answer_eff}
 use Rattle.itip_report.specs.Reports.{IsRefresh, IsWanted}
-use Rattle.itip_explain.specs.Deciding.{DecidesAmong, DecidesOn}
+use Rattle.itip_explain.specs.Deciding.{DecidesOn}
 use Rattle.itip_explain.specs.Fates.{standing_fate, IsOverrideFate, IsAttendee, IsFateAt, IsFate}
 use Rattle.itip_explain.specs.Told.{heard_of}
 use Rattle.itip_explain.specs.declared.fate.Fate.{Fate}

@@ -1,5 +1,5 @@
--- The latest of each key tell what is kept of all.
-use Rattle.std.proofs.Common.{◌+◌, ◌≤◌, zero, suc, length, get_or, take, arith}
+-- What is kept of all follows from the latest of each key.
+use Rattle.std.proofs.Common.{◌+◌, zero, suc, length, get_or, take, arith}
 use Rattle.std.proofs.Common.{◌≡◌, ◌<◌, ◌↔◌, ℕ, List, [], ◌∷◌, ◌++◌, map, refl, sym, ◌∙◌, ap, subst, inl, inr, false, append-nil, Option}
 use Rattle.std.proofs.Common.{Some, None, Bor}
 use Rattle.std.specs.List.{Contains}
@@ -16,12 +16,12 @@ use Rattle.itip_state.specs.Kept.{IsKept, AreKept}
 use Rattle.itip_state.proofs.Best.{later_than_less, not_later_itself}
 use Rattle.itip_state.proofs.Keeping.{Covers, covers_itself, kept_of_parts, kept_beside, are_kept_by}
 use Rattle.itip_state.proofs.Members.{none_in, cons_cases}
-use Rattle.itip_explain.specs.Latest.{told_cmp, is_before, AreLatestFirst, ArePicked, items_in}
+use Rattle.itip_explain.specs.Latest.{is_before, AreLatestFirst, ArePicked, items_in}
 use Rattle.itip_explain.specs.Told.{heard_of}
 use Rattle.itip_explain.specs.declared.told.ToldItem.{ToldItem}
 use Rattle.itip_explain.proofs.Firsts.{told_total, into_map, from_map, map_append, not_later_than, in_order, from_order}
 
--- what is picked of what was gone through, and the key of the last of it
+-- what was picked so far, and the key of the last item gone through
 pub record PicksSoFar (done picked : List (Bor ToldItem)) (last : Option Key) : Type 0 where
   pub are : ArePicked done picked
   pub last_is : (key : Key) → last ≡ Some key → (pick : Bor ToldItem) × Contains picked pick × (pick.now.item.key ≡ key)
@@ -33,7 +33,7 @@ picks_none = record {
 }
 
 module _ (done picked : List (Bor ToldItem)) (last : Option Key) (so : PicksSoFar done picked last) (one : Bor ToldItem) where
-  -- one of the last key is not later than what was picked of it
+  -- an item with the last key is not later than what was picked for that key
   pub picks_skip : last ≡ Some one.now.item.key → ((earlier : Bor ToldItem) → Contains done earlier → is_before one earlier ≡ false) →
       PicksSoFar (done ++ one ∷ []) picked last
   picks_skip same after = record {
@@ -75,7 +75,7 @@ module _ (done picked : List (Bor ToldItem)) (last : Option Key) (so : PicksSoFa
     last_is = λ key e. (one, Contains-push picked one, let k : one.now.item.key ≡ key = cc in k);
   }
 
--- an item that isn't later than another, nor earlier, is the other
+-- an item that is neither later nor earlier than another is the same
 same_revision : (a b : Item) → (¬ IsLater a b) → (¬ IsLater b a) → a ≡ b
 same_revision a b p q =
     elim (revision_cmp a b) as (λ o. revision_cmp a b ≡ o → a ≡ b) [
@@ -130,7 +130,7 @@ kept_none state e item = (
   λ kept. absurd (none_in item kept.best.is_heard),
 )
 
--- the same of told items gone through one by one
+-- the same for told items, one by one
 pub kept_step : (state next : List Item) (told : List (Bor ToldItem)) (i : ℕ) (one : Bor ToldItem) (item : Item) → i < length told →
     one ≡ get_or told i one → item ≡ one.now.item → AreKept state (items_in (take i told)) → AreKept next (state ++ item ∷ []) →
     AreKept next (items_in (take (i + 1) told))
@@ -143,7 +143,7 @@ kept_step state next told i one item below is same are more =
     (subst (λ (x : Item). AreKept next (items_in (take i told) ++ x ∷ [])) same
     (kept_more state next (items_in (take i told)) item are more))
 
--- the members of what was gone through stand before what comes next
+-- what was gone through comes before what is next
 in_take : (xs : List (Bor ToldItem)) (i : ℕ) (x : Bor ToldItem) → Contains (take i xs) x →
     (j : ℕ) × (j < i) × (j < length xs) × (get_or xs j x ≡ x)
 in_take [] zero x h = absurd (none_in x h)

@@ -9,7 +9,7 @@ use Rattle.itip_view.specs.Rows.{instance_answers, occurrence_answers, range_ans
 use Rattle.itip_view.specs.declared.row.Row.{Row}
 use Rattle.itip_view.specs.declared.window.Window.{Window}
 
--- an answer decides on the attendee of one of these lines, where of each line these are asked
+-- an answer decides on the attendee of one of these lines, given what is asked for each line
 pub record DecidesAmong (heard : List Item) (asked_of : Property → List Asked) (lines : List Property) (answer : Item) : Type 0 where
   pub line : Property
   pub there : Contains lines line

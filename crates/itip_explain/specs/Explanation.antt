@@ -8,7 +8,7 @@ use Rattle.itip_explain.specs.Told.{heard_of}
 use Rattle.itip_explain.specs.declared.fate.Fate.{Fate}
 use Rattle.itip_explain.specs.declared.told.ToldItem.{ToldItem}
 
--- the lines of these of what was told
+-- the lines of these items of all that was told
 abbrev pub AreLines : List ToldItem → List SourceName → List ToldItem → List ℕ → Type 0
 AreLines told names [] text = text ≡ []
 AreLines told names (one ∷ others) text =

@@ -20,7 +20,7 @@ use Rattle.itip_explain.specs.declared.fate.Fate.TheVariants as fate
 use Rattle.itip_explain.specs.declared.told.Place.{Place}
 use Rattle.itip_explain.specs.declared.told.ToldItem.{ToldItem}
 
--- 1. another item of its key is later: the latest of them was told here first
+-- 1. another item of its key is later; the place is where the latest was first told
 pub record IsOvertaken (told : List ToldItem) (item : Item) (became : Fate) : Type 0 where
   pub latest : Item
   pub best : IsBest (heard_of told) item.key latest
@@ -29,7 +29,7 @@ pub record IsOvertaken (told : List ToldItem) (item : Item) (became : Fate) : Ty
   pub first : IsFirstToTell told latest place
   pub became_is : became ≡ fate.OvertakenBy place
 
--- 2. it is dead: the best series item was told here first
+-- 2. it is dead; the place is where the best series item was first told
 pub record IsVoid (told : List ToldItem) (item : Item) (became : Fate) : Type 0 where
   pub best : IsBest (heard_of told) item.key item
   pub dead : IsDead (heard_of told) item
@@ -37,11 +37,11 @@ pub record IsVoid (told : List ToldItem) (item : Item) (became : Fate) : Type 0 
   pub first : IsFirstToTell told dead.series place
   pub became_is : became ≡ fate.VoidBy place
 
--- 3. what stands is live, or cancels
+-- 3. an item that stands: it is live, or it cancels
 abbrev pub standing_fate : Kind → Fate → Fate
 standing_fate kind cancels = if is_live kind then fate.Stands else cancels
 
--- a kept instance or range item that doesn't stand: the series item, which is cancelled, was told here first
+-- a kept instance or range item that doesn't stand; the place is where the series item, which is cancelled, was first told
 pub record IsCancelledToo (told : List ToldItem) (uid : List ℕ) (key : Key) (item : Item) (became : Fate) : Type 0 where
   pub not_standing : StandsUnder (heard_of told) uid key item → ⊥
   pub series : Item
@@ -55,17 +55,17 @@ abbrev pub IsOverrideFate : List ToldItem → List ℕ → Key → Fate → Item
 IsOverrideFate told uid key cancels item became =
     (StandsUnder (heard_of told) uid key item × (became ≡ standing_fate item.kind cancels)) ⊎ IsCancelledToo told uid key item became
 
--- one of these lines is of the attendee of a key
+-- one of these lines is of the attendee with a key
 pub record IsNamed (lines : List Property) (attendee : List ℕ) : Type 0 where
   pub line : Property
   pub there : Contains lines line
   pub same : attendee_key line.value ≡ attendee
 
--- an item has an ATTENDEE of this key
+-- an item has an ATTENDEE with this key
 abbrev pub HasAttendee : Item → List ℕ → Type 0
 HasAttendee item attendee = IsNamed item.todo.attendees attendee
 
--- a live range item that stands has an ATTENDEE of this key
+-- a live range item that stands has an ATTENDEE with this key
 pub record IsOfRange (heard : List Item) (uid attendee : List ℕ) : Type 0 where
   pub id : Moment
   pub range : Item
@@ -73,20 +73,20 @@ pub record IsOfRange (heard : List Item) (uid attendee : List ℕ) : Type 0 wher
   pub live : IsLive range
   pub has : HasAttendee range attendee
 
--- The attendee of an answer is one of the item that governs the row in question; for an answer to the to-do as a whole also one
--- of a live range item that stands.
+-- The attendee of an answer is one of the item that governs the row in question or, for an answer to the to-do as a whole, of a live
+-- range item that stands.
 abbrev pub IsAttendee : List Item → List ℕ → Option Moment → Item → List ℕ → Type 0
 IsAttendee heard uid None governing attendee = HasAttendee governing attendee ⊎ IsOfRange heard uid attendee
 IsAttendee heard uid (Some at) governing attendee = HasAttendee governing attendee
 
--- 4. an answer to an earlier revision than the item that governs the row in question, which was told here first
+-- 4. an answer to an earlier revision than that of the item that governs the row in question; the place is where this item was first told
 pub record IsOlder (told : List ToldItem) (governing item : Item) (became : Fate) : Type 0 where
   pub older : item.own < governing.own
   pub place : Place
   pub first : IsFirstToTell told governing place
   pub became_is : became ≡ fate.ForOlderThan place
 
--- an answer of none of its attendees
+-- an answer from no such attendee; the place is that of the same item
 pub record IsStranger (told : List ToldItem) (uid : List ℕ) (id : Option Moment) (attendee : List ℕ) (governing : Item) (became : Fate)
     : Type 0 where
   pub no_attendee : IsAttendee (heard_of told) uid id governing attendee → ⊥
@@ -94,19 +94,19 @@ pub record IsStranger (told : List ToldItem) (uid : List ℕ) (id : Option Momen
   pub first : IsFirstToTell told governing place
   pub became_is : became ≡ fate.FromNoAttendeeOf place
 
--- an answer that is not to an earlier revision: of an attendee it counts
+-- an answer that is not to an earlier revision: it counts if it is from an attendee
 pub record IsNotOlder (told : List ToldItem) (uid : List ℕ) (id : Option Moment) (attendee : List ℕ) (governing item : Item)
     (became : Fate) : Type 0 where
   pub since : governing.own ≤ item.own
   pub by_attendee : (IsAttendee (heard_of told) uid id governing attendee × (became ≡ fate.Counts)) ⊎
       IsStranger told uid id attendee governing became
 
--- an answer, by the item that governs the row in question
+-- an answer, given the item that governs the row in question
 abbrev pub IsUnder : List ToldItem → List ℕ → Option Moment → List ℕ → Item → Item → Fate → Type 0
 IsUnder told uid id attendee governing item became =
     IsOlder told governing item became ⊎ IsNotOlder told uid id attendee governing item became
 
--- an answer where a row is in question
+-- an answer, if a row is in question
 pub record IsAboutRow (told : List ToldItem) (uid : List ℕ) (id : Option Moment) (attendee : List ℕ) (item : Item) (became : Fate)
     : Type 0 where
   pub governing : Item
@@ -122,18 +122,18 @@ IsAnswerFate told uid id attendee item became =
 abbrev pub NoneGoverns : List Item → List ℕ → Option Moment → Type 0
 NoneGoverns heard uid id = (item : Item) → ¬ Governs heard uid id item
 
--- 5. a refresh request waits where the refresh report has it, and is answered otherwise
+-- 5. a refresh request waits if the refresh report has it, and is answered otherwise
 abbrev pub IsWaitingOrAnswered : List Item → Item → Fate → Type 0
 IsWaitingOrAnswered heard item became =
     (IsWanted heard item × (became ≡ fate.Waits)) ⊎ ((IsWanted heard item → ⊥) × (became ≡ fate.IsAnswered))
 
--- a refresh request where something governs what it names
+-- a refresh request, if something governs what it names
 pub record IsRefreshOf (told : List ToldItem) (uid : List ℕ) (id : Option Moment) (item : Item) (became : Fate) : Type 0 where
   pub governing : Item
   pub governs : Governs (heard_of told) uid id governing
   pub by_report : IsWaitingOrAnswered (heard_of told) item became
 
--- what is wanted waits
+-- a refresh request that is wanted waits, any other is answered
 abbrev pub waiting_fate : Bool → Fate
 waiting_fate true = fate.Waits
 waiting_fate false = fate.IsAnswered

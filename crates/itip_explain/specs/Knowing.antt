@@ -1,4 +1,4 @@
--- What the fates of told items are told by (our own form).
+-- What decides the fates of told items (our own form).
 use Rattle.std.specs.Prelude.{◌<◌, ℕ, List}
 use Rattle.itip_items.specs.KeyParts.{uid_of}
 use Rattle.itip_items.specs.declared.item.Item.{Item}
@@ -12,14 +12,14 @@ use Rattle.itip_explain.specs.Told.{heard_of}
 use Rattle.itip_explain.specs.declared.fates.Fates.{Fates}
 use Rattle.itip_explain.specs.declared.told.ToldItem.{ToldItem}
 
--- what was told, and what was heard by it
+-- what was told, and the items that were heard by it
 abbrev pub told_to : Fates → List ToldItem
 told_to fates = fates.latest.now.told.now
 
 abbrev pub heard_by : Fates → List Item
 heard_by fates = heard_of (told_to fates)
 
--- what was told is of one UID, and the fates are told by what is kept of it
+-- what was told is of one UID, and the fates are decided by what is kept of it
 pub record IsSound (fates : Fates) : Type 0 where
   pub order : IsInOrder fates.latest.now
   pub about : AreOf fates.question.uid (heard_by fates)

@@ -1,5 +1,5 @@
--- Told items in the order in which the latest of a key is found by halves (our own form): by key, of one key the latest first, and
--- equal ones in the order told.
+-- Told items, sorted so that binary search finds the latest of a key (our own form): by key, the latest of each key first, and equal
+-- ones in the order told.
 use Rattle.std.specs.Prelude.{◌≡◌, List, map, Bool}
 use Rattle.std.specs.List.{Contains}
 use Rattle.std.specs.List.Sorted.{IsPermutation, IsSortedBy, IsStableBy}
@@ -30,12 +30,12 @@ pub record IsInOrder (latest : Latest) : Type 0 where
   pub given_are : map (λ one. one.now) given ≡ latest.told.now
   pub order : AreLatestFirst given latest.sorted.items
 
--- of each key of what stands in order some are picked, the latest among them
+-- for each key some of the sorted items are picked, the latest among them
 pub record ArePicked (from picked : List (Bor ToldItem)) : Type 0 where
   pub each : (one : Bor ToldItem) → Contains picked one → Contains from one
   pub all : (one : Bor ToldItem) → Contains from one → (pick : Bor ToldItem) × Contains picked pick
       × (pick.now.item.key ≡ one.now.item.key) × (¬ IsLater one.now.item pick.now.item)
 
--- the items of what is told
+-- the items of some told items
 abbrev pub items_in : List (Bor ToldItem) → List Item
 items_in told = map (λ one. one.now.item) told

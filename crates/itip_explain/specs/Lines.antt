@@ -1,5 +1,5 @@
--- What is said of each item that was told (our own format): where it is told, its kind, what it is about, its revision, and what
--- became of it.
+-- The line of each item that was told (our own format): where it was told, its kind, what it is about, its revision, and what became
+-- of it.
 use Rattle.std.specs.Prelude.{ℕ, List, [], ◌++◌, codes, Option, Some, None, slice_get}
 use Rattle.std.specs.Fmt.{decimal}
 use Rattle.itip_moment.specs.Shown.{shown_moment}
@@ -28,11 +28,11 @@ kind_text kind.Cancel = codes "cancel"
 kind_text kind.Reply = codes "reply"
 kind_text kind.Refresh = codes "refresh"
 
--- what an item is about: "-" or the instance, with "+" after it where it is of a range
+-- what an item is about: "-" or the instance, with "+" after it if it is of a range
 abbrev pub about_text : Key → List ℕ
 about_text key = shown shown_moment (instance_of key) ++ mark_of key
 
--- the attendee, where the item is of one
+-- the attendee, if the item is of one
 abbrev pub attendee_text : Key → List ℕ
 attendee_text (Series uid) = []
 attendee_text (Instance uid id) = []
@@ -40,7 +40,7 @@ attendee_text (Range uid id) = []
 attendee_text (Answer uid id attendee) = codes " " ++ attendee
 attendee_text (Refresh uid id attendee) = codes " " ++ attendee
 
--- SEQUENCE as it stands, and DTSTAMP
+-- the item's own SEQUENCE, and DTSTAMP
 abbrev pub revision_text : Item → List ℕ
 revision_text item = codes " seq " ++ (decimal item.own ++ (codes " stamp " ++ stamp_text item.stamp))
 
@@ -48,7 +48,7 @@ abbrev pub item_text : Item → List ℕ
 item_text item =
     kind_text item.kind ++ (codes " " ++ (about_text item.key ++ (attendee_text item.key ++ revision_text item)))
 
--- a message of a source; one without a name is called as standard input is
+-- a message of a source; a source without a name is named like standard input
 abbrev pub message_in : Option SourceName → ℕ → List ℕ
 message_in None message = place_of named.StandardInput message
 message_in (Some name) message = place_of name message
@@ -71,7 +71,7 @@ fate_words fate.Counts = codes "counts"
 fate_words fate.Waits = codes "waits"
 fate_words fate.IsAnswered = codes "is answered"
 
--- the place that is named after these words
+-- the place that follows these words
 abbrev pub named_place : Fate → Option Place
 named_place (fate.OvertakenBy place) = Some place
 named_place (fate.VoidBy place) = Some place

@@ -11,7 +11,7 @@ use Rattle.itip_explain.specs.declared.told.ToldItem.{ToldItem}
 abbrev pub heard_of : List ToldItem → List Item
 heard_of told = map (λ (one : ToldItem). one.item) told
 
--- the place of the first of what was told that tells the item
+-- the place of the first told item that is this item
 pub record IsFirstToTell (told : List ToldItem) (item : Item) (place : Place) : Type 0 where
   pub before : List ToldItem
   pub first : ToldItem
@@ -21,7 +21,7 @@ pub record IsFirstToTell (told : List ToldItem) (item : Item) (place : Place) : 
   pub none_before : Contains (heard_of before) item → ⊥
   pub place_is : first.place ≡ place
 
--- the best item of a key, where it is told first
+-- the best item of a key, at the place where it is first told
 pub record IsBestTold (told : List ToldItem) (key : Key) (one : ToldItem) : Type 0 where
   pub best : IsBest (heard_of told) key one.item
   pub first : IsFirstToTell told one.item one.place

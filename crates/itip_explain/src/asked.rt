@@ -1,4 +1,4 @@
-//! Whom the items of a UID ask.
+//! Which attendees the items of a UID ask.
 ghost use Rattle.std.specs.Prelude.{◌≡◌, ◌↔◌, IfOk, OnOk, IsTrue, List, map};
 ghost use Rattle.std.specs.List.Sorted.{IsPermutation, IsSortedBy};
 ghost use Rattle.std.specs.Option.{option_copied, option_cmp};
@@ -18,7 +18,7 @@ use itip_view::has_rows;
 use std::alloc::Global;
 use std::cmp::Ordering;
 
-/// That an item asks an attendee.
+/// An item, or the to-do as a whole, asks an attendee.
 #[derive(Drop)]
 pub(crate) struct Asking<'a> {
     /// The key of the item; `None` for the to-do as a whole.
@@ -27,8 +27,8 @@ pub(crate) struct Asking<'a> {
     pub(crate) attendee: Text,
 }
 
-/// Whom the items of a UID ask that rows can come from, and whom the to-do as a whole: those of its series item and of its range
-/// items. They stand in order, so one is found by halves.
+/// The attendees that are asked by those items of a UID that rows can come from, and by the to-do as a whole: those of its series item
+/// and of its range items. They are sorted, so that binary search finds one.
 #[derive(Drop)]
 pub(crate) struct Asked<'a> {
     pub(crate) askings: Vec<Asking<'a>>,
@@ -44,7 +44,7 @@ impl<'a> Asked<'a> {
         Ok(Asked { askings })
     }
 
-    /// Whether the item of a key, or the to-do as a whole, asks an attendee, by its key. It takes no memory.
+    /// Whether the item with the key `by`, or the to-do as a whole for `None`, asks the attendee with this key. Allocates nothing.
     pub(crate) fn has(&self, by: Option<&Key>, attendee: &str) -> bool
         ensures { (items : List Item) → AreInOrder items self.now.askings.items
             → IsTrue result ↔ IsAskedBy items (option_copied by.entry) attendee.now }
@@ -66,7 +66,7 @@ fn askings<'a>(alloc: Global, items: &[&'a Item]) -> Result<Vec<Asking<'a>>, NoM
     Ok(found)
 }
 
-/// Adds whom an item asks, where rows can come from it.
+/// Adds the attendees that an item asks, if rows can come from it.
 fn add_item<'a>(alloc: Global, found: &mut Vec<Asking<'a>>, item: &'a Item) -> Result<(), NoMemory>
     ensures { OnOk result (AddsAskings (AsksBy item.now) found.old.items found.new.items) }
 {
@@ -81,7 +81,7 @@ fn add_item<'a>(alloc: Global, found: &mut Vec<Asking<'a>>, item: &'a Item) -> R
     Ok(())
 }
 
-/// Whether items of a key ask for the to-do as a whole too.
+/// Whether items with this key also ask for the to-do as a whole.
 fn is_of_whole(key: &Key) -> bool
     ensures { result ≡ is_of_whole key.now }
 {
@@ -91,7 +91,7 @@ fn is_of_whole(key: &Key) -> bool
     }
 }
 
-/// Adds the attendees of these lines, as asked by one.
+/// Adds the attendees on these lines, as asked by `by`.
 fn add_lines<'a>(
     alloc: Global,
     found: &mut Vec<Asking<'a>>,
@@ -108,7 +108,7 @@ fn add_lines<'a>(
     Ok(())
 }
 
-/// Askings in their order.
+/// Sorts askings.
 fn in_order(found: Vec<Asking<'_>>) -> Result<Vec<Asking<'_>>, NoMemory>
     ensures up { IfOk result (λ sorted. IsSortedBy (λ a b. is_lt (pair_cmp (pair_of a) (pair_of b))) sorted.items) }
     ensures same { IfOk result (λ sorted. IsPermutation found.entry.items sorted.items) }
@@ -118,14 +118,14 @@ fn in_order(found: Vec<Asking<'_>>) -> Result<Vec<Asking<'_>>, NoMemory>
     Ok(found)
 }
 
-/// The to-do as a whole first, then by the key of the item, then by attendee.
+/// Orders the to-do as a whole first, then by the key of the item, then by attendee.
 fn compare(asking: &Asking<'_>, by: Option<&Key>, attendee: &str) -> Ordering
     ensures { result ≡ pair_cmp (pair_of asking.now) (option_copied by.entry, attendee.now) }
 {
     compare_keys(asking.by, by).then(asking.attendee.as_str().cmp(attendee))
 }
 
-/// None first, then by place.
+/// Orders `None` first, then by place.
 fn compare_keys(a: Option<&Key>, b: Option<&Key>) -> Ordering
     ensures { result ≡ option_cmp place_cmp (option_copied a.entry) (option_copied b.entry) }
 {

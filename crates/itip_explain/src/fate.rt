@@ -2,7 +2,7 @@
 
 use crate::told::Place;
 
-/// What became of an item that was told (our own rules). A place is that of the message that is the first to tell an item.
+/// What became of an item that was told (our own rules). The place of an item is that of the first message to tell it.
 #[derive(Clone, Copy, Debug)]
 pub enum Fate {
     /// Another item of its key is later; the place is that of the latest.
@@ -19,13 +19,14 @@ pub enum Fate {
     CancelsOnward,
     /// It is kept, and doesn't stand beside the series item, which is cancelled; the place is that of the series item.
     CancelledWithToDoBy(Place),
-    /// It is kept, and no row is in question; or nothing governs what a refresh request names.
+    /// It is kept, and no row is in question or, for a refresh request, nothing governs what it names.
     AboutNothing,
-    /// It answers an earlier revision than the item that governs the row in question, whose place this is.
+    /// It is for an earlier revision than that of the item that governs the row in question; the place is that of this item.
     ForOlderThan(Place),
-    /// It is of none of the attendees of that item, whose place this is.
+    /// It is from no attendee of that item nor, if it is for the to-do as a whole, of a live range item that stands; the place is that of
+    /// the item that governs.
     FromNoAttendeeOf(Place),
-    /// It is an answer, or takes out an attendee, and counts.
+    /// It is an answer or a removal, and counts.
     Counts,
     /// It is a refresh request that waits for an answer.
     Waits,
@@ -37,7 +38,7 @@ impl Fate {
     ghost use Rattle.std.specs.Prelude.{◌≡◌};
     ghost use Rattle.itip_explain.specs.Lines.{fate_words, named_place};
 
-    /// What is said of it, up to the place.
+    /// The words for it, up to the place.
     pub(crate) fn as_str(self) -> &'static str
         ensures { result.now ≡ fate_words self }
     {
@@ -58,7 +59,7 @@ impl Fate {
         }
     }
 
-    /// The place that is named.
+    /// The place that it names, if any.
     pub(crate) fn place(self) -> Option<Place>
         ensures { result ≡ named_place self }
     {

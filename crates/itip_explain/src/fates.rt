@@ -24,7 +24,7 @@ use itip_state::ItemsOfUid;
 use itip_view::{InQuestion, governing, is_live, stands_beside};
 use std::alloc::Global;
 
-/// What the fates of told items are told by: the latest of each key, which rows are in question, and whom items ask.
+/// What decides the fates of told items: the latest of each key, which rows are in question, and whom items ask.
 #[derive(Drop)]
 pub(crate) struct Fates<'v, 'a, 't> {
     pub(crate) latest: &'v Latest<'t>,
@@ -74,7 +74,7 @@ impl<'v, 'a, 't> Fates<'v, 'a, 't> {
         self.fate_of_best(item)
     }
 
-    /// What became of an item that none of its key is later than.
+    /// What became of an item that is the best of its key.
     fn fate_of_best(&self, item: &Item) -> Result<Fate, NoMemory>
         requires sound { IsSound self.now }
         requires best { IsBest (heard_by self.now) item.now.key item.now }
@@ -86,13 +86,13 @@ impl<'v, 'a, 't> Fates<'v, 'a, 't> {
         }
     }
 
-    /// The series item that one is dead below, which none of its key is later than.
+    /// The series item that an item, the best of its key, is dead below; `None` if it isn't dead.
     fn killer(&self, item: &Item) -> Option<&'a Item>
         requires sound { IsSound self.now }
         requires best { IsBest (heard_by self.now) item.now.key item.now }
         ensures { MatchOption (option_copied result) (¬ IsDead (heard_by self.now) item.now) (Kills (heard_by self.now) item.now) }
     {
-        // What is best of its key and isn't kept is dead.
+        // The best item of a key is dead if it isn't kept.
         let items = self.question.items();
         match items.best(&item.key) {
             Some(_) => None,
@@ -100,7 +100,7 @@ impl<'v, 'a, 't> Fates<'v, 'a, 't> {
         }
     }
 
-    /// The first place that tells an item that none of its key is later than.
+    /// The first place that tells an item that is the best of its key.
     fn place_of(&self, item: &Item) -> Place
         requires sound { IsSound self.now }
         requires best { IsBest (heard_by self.now) item.now.key item.now }
@@ -124,7 +124,7 @@ impl<'v, 'a, 't> Fates<'v, 'a, 't> {
         }
     }
 
-    /// What became of a kept instance or range item, which cancels where it stands and isn't live.
+    /// What became of a kept instance or range item: `cancels` if it stands and isn't live.
     fn override_fate(&self, item: &Item, cancels: Fate) -> Fate
         requires sound { IsSound self.now }
         requires kept { IsKept (heard_by self.now) item.now }
@@ -136,7 +136,7 @@ impl<'v, 'a, 't> Fates<'v, 'a, 't> {
         }
     }
 
-    /// The series item beside which a kept instance or range item doesn't stand.
+    /// The series item beside which a kept instance or range item doesn't stand; `None` if the item stands.
     fn hidden_by(&self, item: &Item) -> Option<&'a Item>
         requires sound { IsSound self.now }
         requires kept { IsKept (heard_by self.now) item.now }
@@ -167,7 +167,7 @@ impl<'v, 'a, 't> Fates<'v, 'a, 't> {
         }
     }
 
-    /// What became of it under the item that governs the row in question.
+    /// What became of an answer or removal under the item that governs the row in question.
     fn fate_under(&self, governing: &Item, item: &Item, id: &Option<Moment>, attendee: &str) -> Fate
         requires sound { IsSound self.now }
         requires in_question { IsInQuestion (heard_by self.now) self.now.question.uid id.now governing.now }
@@ -183,7 +183,7 @@ impl<'v, 'a, 't> Fates<'v, 'a, 't> {
         }
     }
 
-    /// Whether the attendee of a key is one of the item that governs a row in question, or, of the to-do as a whole, of a live range
+    /// Whether the attendee with a key is one of the item that governs a row in question or, for the to-do as a whole, of a live range
     /// item that stands.
     fn asks(&self, governing: &Item, id: &Option<Moment>, attendee: &str) -> bool
         requires sound { IsSound self.now }
@@ -208,7 +208,7 @@ impl<'v, 'a, 't> Fates<'v, 'a, 't> {
     }
 }
 
-/// What is wanted waits.
+/// The fate of a refresh request: it waits if it is wanted, else it is answered.
 fn waiting_fate(is_wanted: bool) -> Fate
     ensures { result ≡ waiting_fate is_wanted }
 {
@@ -219,7 +219,7 @@ fn waiting_fate(is_wanted: bool) -> Fate
     }
 }
 
-/// By what is asked for whom the item that governs a row in question names; `None` for the to-do as a whole.
+/// The key under which the attendees of the item that governs a row in question are looked for; `None` for the to-do as a whole.
 fn asking_key<'k>(governing: &'k Item, id: &Option<Moment>) -> Option<&'k Key>
     ensures { option_copied result ≡ asking_key governing.now id.now }
 {
@@ -229,7 +229,7 @@ fn asking_key<'k>(governing: &'k Item, id: &Option<Moment>) -> Option<&'k Key>
     }
 }
 
-/// What stands is live, or cancels.
+/// The fate of what stands: `Stands` if it is live, else `cancels`.
 fn standing_fate(kind: Kind, cancels: Fate) -> Fate
     ensures { result ≡ standing_fate kind cancels }
 {

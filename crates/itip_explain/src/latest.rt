@@ -15,7 +15,7 @@ use itip_state::{SharedItem, State};
 use std::alloc::Global;
 use std::cmp::Ordering;
 
-/// Told items by key, of one key the latest first, and equal ones in the order told.
+/// Told items sorted by key, the latest of each key first, and equal ones in the order told.
 #[derive(Drop)]
 pub(crate) struct Latest<'t> {
     pub(crate) told: &'t [ToldItem],
@@ -23,7 +23,7 @@ pub(crate) struct Latest<'t> {
 }
 
 impl<'t> Latest<'t> {
-    /// These items in this order.
+    /// Sorts these items.
     pub(crate) fn of(alloc: Global, told: &'t [ToldItem]) -> Result<Latest<'t>, NoMemory>
         ensures told { IfOk result (λ latest. latest.told.now ≡ told.now) }
         ensures order { IfOk result IsInOrder }
@@ -33,7 +33,7 @@ impl<'t> Latest<'t> {
         Ok(Latest { told, sorted })
     }
 
-    /// The latest told item of the key of one that was told; of equal ones the first.
+    /// The latest told item with the key of a told item; of equal ones, the first told.
     pub(crate) fn of_key(&self, item: &Item) -> &'t ToldItem
         requires order { IsInOrder self.now }
         requires heard { Contains (heard_of self.now.told.now) item.now }
@@ -51,13 +51,13 @@ impl<'t> Latest<'t> {
         requires { IsInOrder self.now }
         ensures { IfOk result (λ state. AreKept state (heard_of self.now.told.now)) }
     {
-        // Of each key the latest alone is heard, and the series item first: each other one goes over all that is held.
+        // Only the latest of each key is heard, and the series item first, so that nothing that was heard gives way later.
         let latest = picked(alloc, &self.sorted)?;
         kept_of(alloc, &latest)
     }
 }
 
-/// Each of these.
+/// References to these, in their order.
 fn each_of<'t>(alloc: Global, told: &'t [ToldItem]) -> Result<Vec<&'t ToldItem>, NoMemory>
     ensures { IfOk result (λ given. map (λ one. one.now) given.items ≡ told.now) }
 {
@@ -76,7 +76,7 @@ fn latest_first(told: Vec<&ToldItem>) -> Result<Vec<&ToldItem>, NoMemory>
     Ok(told)
 }
 
-/// By key, of one key the latest first.
+/// Orders by key, the latest of each key first.
 fn compare(a: &ToldItem, b: &ToldItem) -> Ordering
     ensures { result ≡ told_cmp a.now b.now }
 {
@@ -101,7 +101,7 @@ fn picked<'t>(alloc: Global, sorted: &[&'t ToldItem]) -> Result<Vec<&'t ToldItem
     Ok(picked)
 }
 
-/// Whether the key before is this one.
+/// Whether the key before, if there is one, is this key.
 fn is_at(before: Option<&Key>, key: &Key) -> bool
     ensures { IsTrue result ↔ (option_copied before.entry ≡ Some key.now) }
 {

@@ -1,4 +1,4 @@
-//! The laws of what becomes of items, of everything that can be told. They hold with no code: each function is empty.
+//! The laws of what becomes of items, whatever is told. The functions do nothing: their contracts are the laws.
 ghost use Rattle.std.specs.Prelude.{◌≡◌, ◌↔◌, ℕ, List, Option};
 ghost use Rattle.itip_moment.specs.declared.moment.Moment.{Moment};
 ghost use Rattle.itip_items.specs.declared.item.Item.{Item};
@@ -18,7 +18,7 @@ ghost use Rattle.itip_explain.specs.declared.fate.Fate.TheVariants.{Stands, Coun
 ghost use Rattle.itip_explain.specs.declared.told.Place.{Place};
 ghost use Rattle.itip_explain.specs.declared.told.ToldItem.{ToldItem};
 
-/// An item has one fate at most, an item is first told at one place at most, and what was told has one explanation (our own rules).
+/// An item has at most one fate and is first told at one place at most, and what was told has at most one explanation (our own rules).
 pub fn one_explanation()
     ensures fate { (told : List ToldItem) (item : Item) (became other : Fate) → IsFate told item became → IsFate told item other
         → became ≡ other }
@@ -28,8 +28,8 @@ pub fn one_explanation()
         → IsExplanation uid told names text → IsExplanation uid told names other → text ≡ other }
 {}
 
-/// What governs a row of any window stands, as does all that governs a to-do as a whole or an instance; what decides what a row shows
-/// of an attendee counts; and exactly what the refresh report has waits (our own rules).
+/// What governs a row of any window stands, and so does all that governs a to-do as a whole or an instance; an answer that decides what
+/// a row shows of an attendee counts; and an item waits exactly if the refresh report has it (our own rules).
 pub fn fates_and_rows()
     ensures row { (told : List ToldItem) (window : Window) (row : Row) → IsRow (heard_of told) window row
         → (shows : ShowsGoverning (heard_of told) row) × IsFate told shows.item Stands }

@@ -1,5 +1,5 @@
-//! Why the rows of a to-do look so: of each item that messages told of it, whether it stands, counts or waits, or what it gave way
-//! to (our own rules).
+//! Why the rows of a to-do look as they do: for each item that messages told of it, whether it stands, counts or waits, or what it
+//! gave way to (our own rules).
 #![tactic(auto)]
 
 mod asked;

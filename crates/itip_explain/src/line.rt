@@ -33,7 +33,7 @@ pub(crate) fn line_of(
     Ok(line)
 }
 
-/// Where a message stands.
+/// Appends where a message is.
 fn put_place(
     alloc: Global,
     line: &mut String,
@@ -46,7 +46,7 @@ fn put_place(
     line.push_str(text.as_str())
 }
 
-/// Where a message stands; a source without a name is called as standard input is.
+/// Where a message is; a source without a name is named like standard input.
 fn place_text(alloc: Global, names: &[SourceName], place: Place) -> Result<String, NoMemory>
     ensures { IfOk result (λ text. string_bytes text ≡ place_text names.now place) }
 {
@@ -56,7 +56,7 @@ fn place_text(alloc: Global, names: &[SourceName], place: Place) -> Result<Strin
     }
 }
 
-/// What an item is, what it is about, and its revision.
+/// Appends what an item is, what it is about, and its revision.
 fn put_item(alloc: Global, line: &mut String, item: &Item) -> Result<(), NoMemory>
     ensures { OnOk result (string_bytes line.new ≡ string_bytes line.old ++ item_text item.now) }
 {
@@ -81,7 +81,7 @@ fn kind_text(kind: Kind) -> &'static str
     }
 }
 
-/// The attendee, where an item is of one.
+/// Appends the attendee, if an item is of one.
 fn put_attendee(line: &mut String, key: &Key) -> Result<(), NoMemory>
     ensures { OnOk result (string_bytes line.new ≡ string_bytes line.old ++ attendee_text key.now) }
 {
@@ -94,7 +94,7 @@ fn put_attendee(line: &mut String, key: &Key) -> Result<(), NoMemory>
     }
 }
 
-/// SEQUENCE as it stands, and DTSTAMP.
+/// Appends the item's own SEQUENCE, and DTSTAMP.
 fn put_revision(alloc: Global, line: &mut String, item: &Item) -> Result<(), NoMemory>
     ensures { OnOk result (string_bytes line.new ≡ string_bytes line.old ++ revision_text item.now) }
 {
@@ -117,7 +117,7 @@ fn put_stamp(alloc: Global, line: &mut String, item: &Item) -> Result<(), NoMemo
     put_moment(alloc, line, &Moment::Utc(item.stamp))
 }
 
-/// What became of an item.
+/// Appends what became of an item.
 fn put_fate(
     alloc: Global,
     line: &mut String,

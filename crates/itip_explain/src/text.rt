@@ -16,12 +16,12 @@ use std::alloc::Global;
 
 /// A line, with its end, for each item that was told of a UID, in the order told: `WHERE: KIND ID [ADDRESS] seq S stamp T FATE`.
 ///
-/// WHERE is the place of the message, as [`SourceName::place_of`] writes it; a source without a name is called as standard input is.
-/// ID is `-`, or the moment of the instance, with `+` after it where the item is of an instance and all after it. ADDRESS is that of
-/// the attendee, with ASCII letters in lower case, of an answer, a removal and a refresh request. What became of the item is its
-/// [`Fate`](crate::Fate). The one error is that memory was refused.
+/// WHERE is the place of the message, as [`SourceName::place_of`] writes it; a source without a name is named like standard input.
+/// ID is `-`, or the moment of the instance, with `+` after it if the item is of an instance and all after it. ADDRESS is that of the
+/// attendee of an answer, a removal or a refresh request, with ASCII letters in lower case. S is the item's own SEQUENCE, T its DTSTAMP,
+/// and FATE what became of it: its [`Fate`](crate::Fate) in words. Fails only if an allocation fails.
 ///
-/// What is told is looked up by halves, so that twice as many items take about twice the time.
+/// Told items are found by binary search, so twice as many take about twice the time.
 pub fn explanation(
     alloc: Global,
     uid: &Uid,

@@ -1,10 +1,10 @@
 //! Items, and where they are told.
 use itip_items::Item;
 
-/// Where a message stands.
+/// Where a message is.
 #[derive(Clone, Copy, Debug, PartialEq, Eq)]
 pub struct Place {
-    /// The place of its source, from 0.
+    /// The place of its source among the sources, from 0.
     pub source: usize,
     /// Its number among the messages of this source, from 1.
     pub message: u64,

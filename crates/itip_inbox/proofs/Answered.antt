@@ -1,4 +1,4 @@
--- What stands beside messages: their items, or a refusal.
+-- The answers to messages: their items, or a refusal.
 use Rattle.std.proofs.Common.{◌≡◌, ◌∙◌, sym, ap, refl, ℕ, List, [], ◌∷◌, ◌++◌, append_assoc, append-nil, Option, Result, Ok, Err}
 use Rattle.itip_explain.specs.declared.told.ToldItem.{ToldItem}
 use Rattle.itip_items.specs.declared.item.Item.{Item}
@@ -40,7 +40,7 @@ told_both about (m ∷ ms) ns (Ok items ∷ xs) ys each =
     sym (append_assoc (told_in (place_of m) (items_about about items)) (told_at about ms xs) (told_at about ns ys))
 told_both about (m ∷ ms) ns (Err cause ∷ xs) ys each = told_both about ms ns xs ys each.1
 
--- ---- messages behind others
+-- ---- messages after others
 
 pub hears_both : (ms ns : List Placed) (xs ys : List Item) (rs qs : List RefusedMessage) → Hears ms xs rs → Hears ns ys qs →
     Hears (ms ++ ns) (xs ++ ys) (rs ++ qs)

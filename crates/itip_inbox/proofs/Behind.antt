@@ -1,4 +1,4 @@
--- Messages before which others of their input come.
+-- Messages that come after others of their input.
 use Rattle.std.proofs.Common.{◌≡◌, ◌∙◌, sym, ap, refl, ℕ, ◌+◌, List, [], ◌∷◌, ◌++◌, map, subst, arith, Option, Result, Ok, Err}
 use Rattle.std.proofs.lemmas.List.{map-append}
 use Rattle.itip_explain.specs.declared.told.ToldItem.{ToldItem}

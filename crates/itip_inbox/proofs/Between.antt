@@ -20,7 +20,7 @@ each_of_both : (xs ys : List (List ℕ)) → AllByRecursion IsCalendar xs → Al
 each_of_both [] ys each more = more
 each_of_both (x ∷ xs) ys each more = (each.0, each_of_both xs ys each.1 more)
 
--- calendars that stand apart from what follows do so where nothing follows
+-- calendars that are apart from what follows are so if nothing follows
 apart_alone : (xs : List (List ℕ)) (rest : List ℕ) → AreApart xs rest → AreApart xs []
 apart_alone [] rest apart = tt
 apart_alone (x ∷ xs) rest apart = (

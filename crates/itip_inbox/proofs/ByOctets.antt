@@ -1,4 +1,4 @@
--- Items of a list, by canonical octets, each once: the kept ones, or others of which it can be told whether they are meant.
+-- Items of a list, sorted by canonical bytes, each once: the kept ones, or others, if it can be decided which are meant.
 use Rattle.std.proofs.Common.{◌≡◌, ◌∙◌, sym, ap, refl, subst, ℕ, suc, ◌⊎◌, ◌↔◌, List, [], ◌∷◌, inl, inr, arith}
 use Rattle.std.specs.List.{Contains}
 use Rattle.std.specs.Ordering.{ordering_reverse}
@@ -82,7 +82,7 @@ put x (y ∷ ys) up =
 
 -- ---- those of which something holds
 
--- those of these items of which this holds, by octets
+-- the items of which this holds, sorted by canonical bytes
 pub record AreThose (P : Item → Type 0) (items those : List Item) : Type 0 where
   pub ascend : AscendOctets those
   pub same : (i : Item) → Contains those i ↔ (Contains items i × P i)

@@ -20,7 +20,7 @@ use Rattle.itip_inbox.proofs.Pieces.{join_five}
 
 -- ---- a field
 
--- one that stands without quotes
+-- one without quotes
 pub plain_field : (field : List ℕ) → list_any is_special field ≡ false → field_text field ≡ field
 plain_field field none = ap (λ b. cond b (34 ∷ (flat_map doubled field ++ 34 ∷ [])) field) none
 

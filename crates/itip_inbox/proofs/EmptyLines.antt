@@ -1,4 +1,4 @@
--- An empty line before a text: its messages are those of the text, the first of them with the line before it, and give the same items.
+-- An empty line before a text: the messages are those of the text, the first of them with the line before it, and give the same items.
 use Rattle.std.proofs.Common.{◌≡◌, ◌≢◌, ◌∙◌, sym, ap, refl, subst, ℕ, ◌≤◌, ◌⊎◌, Bool, cond, List, [], ◌∷◌, ◌++◌}
 use Rattle.std.proofs.Common.{length, map, arith, inl, inr, append_assoc, length-append}
 use Rattle.std.specs.List.{Contains, AllByRecursion, AllZip, concat}
@@ -27,7 +27,7 @@ nil_cr (x ∷ f) e = cc
 is_piece : (end : Break) → IsPiece (empty_piece end)
 is_piece end = record { no_lf = All-nil (λ (b : ℕ). b ≢ 10); bare = λ is. nil_cr }
 
--- the front of a text without a blank at its front has none either
+-- of a text that begins with no blank the first part begins with none either
 pub front_lacks : (front text : List ℕ) → LacksBlank (front ++ text) → LacksBlank front
 front_lacks front text lacks = λ b more e. lacks b (more ++ text) (ap (λ (t : List ℕ). t ++ text) e)
 

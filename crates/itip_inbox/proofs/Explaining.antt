@@ -28,7 +28,7 @@ items_in : (place : Place) (items : List Item) → explain.heard_of (told_in pla
 items_in place [] = refl
 items_in place (item ∷ items) = ap (λ (rest : List Item). item ∷ rest) (items_in place items)
 
--- what is told of a UID are the items of this UID among all that is heard
+-- what is told of a UID is the items of this UID among all that are heard
 told_items : (uid : List ℕ) (messages : List Placed) (answers : List (Result (List Item) MessageRefusal)) → AreAnswers messages answers →
     explain.heard_of (told_at (Some uid) messages answers) ≡ filter (is_about uid) (heard_of answers)
 told_items uid [] [] each = refl
@@ -53,7 +53,7 @@ told_of_uid uid messages told tell item h =
     (bytes_eq-Decides (uid_of item.key) uid).0 (passes (is_about uid) (heard_of tell.answers) item
     (subst (λ (items : List Item). Contains items item) (told_are uid messages told tell) h))
 
--- what is heard where this is told
+-- what is heard if this is told
 its_inbox : (uid : List ℕ) (inputs : List (List ℕ)) (told : List ToldItem) → (is : TellAbout (Some uid) inputs told) →
     IsInbox inputs (heard_of is.tell.answers) (refusals_at (placed_of 0 is.messages) is.tell.answers)
 its_inbox uid inputs told is = record {

@@ -105,7 +105,7 @@ tells_before (line ∷ lines) rest empty apart short item tells =
 
 -- ---- a part
 
--- A part that ends in a gap: calendars, into each of which the empty lines before it are taken, and the empty lines behind the last.
+-- A part that ends in a gap: calendars, each with the empty lines before it, and the empty lines after the last.
 record HasGap (part rest : List ℕ) : Type 0 where
   calendars : List (List ℕ)
   lines : List (List ℕ)
@@ -176,7 +176,7 @@ gap_at : (part rest : List ℕ) → EndsInGap part rest → HasGap part rest
 gap_at part rest ends =
     subst (λ (t : List ℕ). HasGap t rest) (sym ends.whole) (gap_of ends.pieces rest ends.each ends.apart)
 
--- texts that stand apart from what follows do so where less follows
+-- texts that are apart from what follows are so if less follows
 front_apart : (texts : List (List ℕ)) (front rest : List ℕ) → AreApart texts (front ++ rest) → AreApart texts front
 front_apart [] front rest apart = tt
 front_apart (text ∷ texts) front rest apart = (
@@ -236,7 +236,7 @@ module _ (part rest : List ℕ) (gap : HasGap part rest) where
             (tells_also (part ++ rest) (lines ++ rest) item tells later))
       ]
 
-  -- and no less, where no message of both is too long
+  -- and no less, if no message of both is too long
   tells_both : IsShort (part ++ rest) → (item : Item) → Tells part item ⊎ Tells rest item → Tells (part ++ rest) item
   tells_both short item (inl tells) =
       elim (of_both calendars lines before_lines tells.message
@@ -303,7 +303,7 @@ module _ (whole : List ℕ) (parts : List (List ℕ)) (is : IsPartedInGaps whole
         | inr none ↦ absurd (none_has none.message none.has)
       ]
 
-  -- and the other way round, where no message of the whole is too long
+  -- and the other way round, if no message of the whole is too long
   pub same_in_gaps : HaveShortMessages (whole ∷ []) → TellSameItems (whole ∷ []) parts
   same_in_gaps short item = (
     parts_tell item,

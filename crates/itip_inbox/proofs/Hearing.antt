@@ -36,7 +36,7 @@ pub length_placed : (source n : ℕ) (xs : List (List ℕ)) → length (placed_f
 length_placed source n [] = refl
 length_placed source n (x ∷ xs) = ap suc (length_placed source (n + 1) xs)
 
--- the messages of an input that come behind those before them
+-- the messages of an input that come after others
 pub placed_on : (before : List Placed) (source base at count : ℕ) (xs ys : List (List ℕ)) → at ≡ source → count ≡ base + length xs →
     (before ++ placed_from source (base + 1) xs) ++ placed_from at (count + 1) ys ≡ before ++ placed_from source (base + 1) (xs ++ ys)
 placed_on before source base at count xs ys same counted =
@@ -211,7 +211,7 @@ module _ (about : Option (List ℕ)) (kept : List Item) (source next : ℕ) (tex
         count_is = omega (arith, count, long, number);
       }
 
--- so many others come before
+-- `count` others come before
 pub behind_tell : (about : Option (List ℕ)) (kept : List Item) (source first count : ℕ) (texts : List (List ℕ)) (old new : Heard) →
     new.count ≡ old.count → new.news.items ≡ old.news.items →
     new.refusals.items ≡ map (later_refusal count) old.refusals.items → new.told.items ≡ map (later_told count) old.told.items →
@@ -223,7 +223,7 @@ behind_tell about kept source first count texts old new same news refusals told 
   count_is = same ∙ tells.count_is ∙ length_placed source first texts ∙ sym (length_placed source (first + count) texts);
 }
 
--- what two parts tell that are cut apart is what the whole tells
+-- what two parts tell, cut apart, is what the whole tells
 pub parts_tell : (about : Option (List ℕ)) (kept : List Item) (source : ℕ) (whole front back : List ℕ) (ours all : Heard) →
     StaysParted whole front back → Tells about kept (placed_from source 1 (messages_of front)) ours →
     Tells about kept (placed_from source 1 (messages_of front) ++ placed_from source (1 + ours.count) (messages_of back)) all →
@@ -257,7 +257,7 @@ got_same about messages old new state refusals told waiting got = record {
   keeps = keeps_same about got.done old new state refusals told got.keeps;
 }
 
--- where none waits
+-- if none waits
 pub got_now : (about : Option (List ℕ)) (messages : List Placed) (inbox : OpenInbox) → inbox.waiting.items ≡ [] →
     KeepsMessages about messages inbox → HasGot about messages inbox
 got_now about messages inbox none keeps = record {
@@ -314,7 +314,7 @@ got_more about before old now new texts source messages none keeps =
     (subst (λ (s : ℕ). KeepsMessages about (before ++ placed_from s (old.messages + 1) texts) new) source
     (subst (λ (n : ℕ). KeepsMessages about (before ++ placed_from now.source (n + 1) texts) new) messages keeps))
 
--- messages that were numbered from 1 come behind those that were heard
+-- messages that were numbered from 1 come after those that were heard
 pub next_tells : (about : Option (List ℕ)) (kept : List Item) (source count : ℕ) (texts : List (List ℕ)) (heard : Heard) →
     Tells about kept (placed_from source (1 + count) texts) heard → Tells about kept (placed_from source (count + 1) texts) heard
 next_tells about kept source count texts heard tells =

@@ -68,7 +68,7 @@ module _ (about : Option (List ℕ)) (is_long : Bool) (old new : OpenInbox) wher
         long_then messages (subst (λ (ts : List (List ℕ)). DifferInFirst (text_limit + 1) messages ts) is
         (subst (λ (b : Bool). AreReadFor b messages texts) long are))
 
--- texts, cut behind the first
+-- texts, cut after the first
 pub behind_first : (texts : List (Bor (List ℕ))) → 1 ≤ length texts → (first : List ℕ) × (map (λ (t : Bor (List ℕ)). t.now) texts ≡
     first ∷ map (λ (t : Bor (List ℕ)). t.now) (take (length texts - 1) (drop 1 texts)))
 behind_first [] some = absurd (omega (arith, some))
@@ -78,7 +78,7 @@ behind_first (text ∷ texts) some = (
       (sym (take_all (length (text ∷ texts) - 1) texts (omega arith))),
 )
 
--- of what is held all messages are read for those of what came
+-- all messages of what is held are read in place of those of what came
 pub all_read_for : (is_long : Bool) (held came : List ℕ) (texts : List (List ℕ)) → IsHeld is_long held came → texts ≡ messages_of held →
     AreReadFor is_long (messages_of came) texts
 all_read_for is_long held came texts is all =
@@ -86,11 +86,11 @@ all_read_for is_long held came texts is all =
     (subst (λ (t : List ℕ). AreReadFor is_long (messages_of came) (messages_of t)) (append-nil held)
     (subst (λ (t : List ℕ). AreReadFor is_long (messages_of t) (messages_of (held ++ []))) (append-nil came) (is [])))
 
--- and where it is not too long, what is held is cut into what came is cut into
+-- and if it is not too long, what is held is cut into the messages of what came
 pub whole_read_for : (held came : List ℕ) → IsHeld false held came → messages_of came ≡ messages_of held
 whole_read_for held came is = all_read_for false held came (messages_of held) is refl
 
--- of octets that are not too long the first part is heard, and the second is held
+-- of bytes that are not too long the first part is heard, and the second is held
 pub front_first : (about : Option (List ℕ)) (octets front back came more : List ℕ) (next : Held) (old new : OpenInbox) →
     StaysParted octets front back → new.messages ≡ old.messages + length (messages_of front) → ((before : List Placed) →
     HasGot about before old → HasGot about (before ++ placed_from old.source (old.messages + 1) (messages_of front)) new) →
@@ -113,7 +113,7 @@ fewer least most [] (other ∷ others) within differ = absurd differ
 fewer least most (text ∷ texts) [] within differ = absurd differ
 fewer least most (text ∷ texts) (other ∷ others) within differ = (omega (arith, within, differ.0), differ.1)
 
--- texts that differ in the first from others, which do so from more
+-- texts that differ in the first from others, which differ so from still others
 differ_then : (least some : ℕ) (xs ys zs : List (List ℕ)) → DifferInFirst least xs ys → DifferInFirst some ys zs → DifferInFirst least xs zs
 differ_then least some [] [] [] a b = tt
 differ_then least some [] [] (z ∷ zs) a b = absurd b
@@ -127,7 +127,7 @@ abbrev pub HoldsLeft : Bool → List ℕ → Held → Type 0
 HoldsLeft false left next = (next.is_long ≡ false) × (next.octets.items ≡ left)
 HoldsLeft true left next = (next.is_long ≡ true) × StandsIn left next.octets.items
 
--- what has come to be too long, or is held as it is
+-- what has become too long, or is held as it is
 left_held : (over : Bool) (left : List ℕ) (next : Held) → over ≡ ltb text_limit (length left) → HoldsLeft over left next →
     IsHeld next.is_long next.octets.items left
 left_held false left next is holds =

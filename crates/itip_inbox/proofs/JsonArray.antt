@@ -59,7 +59,7 @@ gaps_append (p ∷ ps) qs first second = (first.0, gaps_append ps qs first.1 sec
 
 -- ---- rows
 
--- the tokens of the object of a row, behind its first
+-- the tokens of the object of a row, after its first
 abbrev inner : Row → List Token
 inner row = members_tokens (members_of (row_members row))
 

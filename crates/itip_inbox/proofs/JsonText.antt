@@ -203,7 +203,7 @@ first_of [] first some is = absurd (omega (arith, some))
 first_of (row ∷ rows) first some is =
     ap₂ (λ (r : Row) (rs : List Row). r ∷ rs) (sym is) (sym (take_all (length (row ∷ rows) - 1) rows (omega arith)))
 
--- it is opened with the first object, and the others stand behind it
+-- it is opened with the first object, and the others come after it
 pub opened_again : (old p mid : List ℕ) (row : Row) (others rows : List Row) → p ≡ old ++ codes "[\n" → mid ≡ p ++ object_text row →
     rows ≡ row ∷ others → mid ++ flat_map object_behind others ≡ old ++ opened_text rows
 opened_again old p mid row others rows first second are =
@@ -212,7 +212,7 @@ opened_again old p mid row others rows first second are =
     append_assoc old (codes "[\n") (object_text row ++ flat_map object_behind others) ∙
     ap (λ (rs : List Row). old ++ opened_text rs) (sym are)
 
--- where it is opened with the first of all rows
+-- if it is opened with the first of all rows
 module _ (old mid : Option (List ℕ)) (first rest all : List Row) (kept : List ℕ) (some : first ≡ [] → ⊥) (whole : all ≡ first ++ rest) where
   abbrev end : List ℕ
   end = codes "\n]\n"
@@ -233,7 +233,7 @@ module _ (old mid : Option (List ℕ)) (first rest all : List Row) (kept : List 
   array_text : (opened_text first ++ flat_map object_behind rest) ++ end ≡ json_text all
   array_text = append_assoc (opened_text first) (flat_map object_behind rest) end ∙ go first some ∙ ap json_text (sym whole)
 
-  -- a front of it up to the last of the first rows
+  -- a prefix of it up to the last of the first rows
   pub opened_front : AppendsFront old mid (opened_text first) → AppendsFront old mid (json_text all)
   opened_front front =
       subst (λ (t : List ℕ). AppendsFront old mid t) array_text

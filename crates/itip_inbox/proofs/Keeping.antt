@@ -1,4 +1,4 @@
--- What is kept where more is heard.
+-- What is kept when more is heard.
 use Rattle.std.proofs.Common.{subst, List, [], ◌∷◌, ◌++◌, append_assoc, inl, inr}
 use Rattle.std.proofs.lemmas.List.Elements.{Contains-append_cases, Contains-append_left, Contains-append_right}
 use Rattle.itip_items.specs.declared.item.Item.{Item}
@@ -39,7 +39,7 @@ news_cover first items news are i = (
   λ kept. ((news_kept first items news are i).1 kept).best.is_heard,
 )
 
--- What is news beside a set counts as much as all items, also where more was heard since.
+-- What is news beside a set changes what is kept as all items do, also if more was heard since.
 pub keeps_news : (first new heard items news : List Item) → AreAmong first heard → AreNews first items news → AreKept new (heard ++ news) →
     AreKept new (heard ++ items)
 keeps_news first new heard items news among are kept =

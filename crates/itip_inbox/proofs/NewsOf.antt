@@ -74,7 +74,7 @@ module _ (told heard kept more : List Item) (of_told : AreKept kept told) (of_he
     rest = λ i h. are.rest i ((is.same i).1 h);
   }
 
-  -- the news beside what is kept are what the one set has and the other lacks
+  -- the news beside what is kept is what the one set has and the other lacks
   pub lacking_of_kept : (items news batch : List Item) → IsItemsOf items more → AreNews kept items news → IsItemsOf batch news →
       AreLacking told heard batch
   lacking_of_kept items news batch items_are are batch_is = record {
@@ -178,7 +178,7 @@ module _ (than inputs : List (List ℕ)) (kept more batch : List Item) (noted re
       subst (λ (t : List ℕ). AppendsFront old new t)
       (news_once than inputs (delta_octets batch) octets said refused (is_news said refl) is) front
 
--- ---- what news are for
+-- ---- what news is for
 
 -- what is heard of some inputs and of others is heard of both
 both_told : (xs ys : List (List ℕ)) (hx hy both : List Item) (rx ry refusals : List RefusedMessage) → IsInbox xs hx rx → IsInbox ys hy ry →
@@ -194,7 +194,7 @@ both_told xs ys hx hy both rx ry refusals a b inbox i = (
   ]),
 )
 
--- a batch that was written is heard behind other inputs, and none of it is refused
+-- a batch that was written is heard after other inputs, and none of it is refused
 batch_behind : (inputs : List (List ℕ)) (heard : List Item) (refusals : List RefusedMessage) → IsInbox inputs heard refusals →
     (batch : List Item) → IsInbox (inputs ++ delta_octets batch ∷ []) (heard ++ batch) refusals
 batch_behind inputs heard refusals inbox batch =

@@ -1,4 +1,4 @@
--- What is written of inputs: one text that is made of what is kept.
+-- What is written of inputs: one text, made of what is kept.
 use Rattle.std.proofs.Common.{◌≡◌, subst, refl, ℕ, Bool, ◌||◌, List, [], inl, inr, Option, Result, Ok, Err}
 use Rattle.std.specs.Prelude.{OnOk, IfOk}
 use Rattle.std.specs.Io.KnownBytes.{Appends}
@@ -36,7 +36,7 @@ module _ (Is : List Item → List ℕ → Bool → Type 0) (kept : List Item) (r
         record { output = text; is_output = is_of_inbox inputs refused (holds inputs are) is; appended = appended }
     all_written (Err e) appended is = tt
 
-    -- a front is written
+    -- a prefix is written
     module _ (front : AppendsFront old new text) (inputs : List (List ℕ)) (are : AreInputs remaining sources inputs) where
       pub some_front : WritesFront (IsOfInbox Is inputs) old new
       some_front =
@@ -47,7 +47,7 @@ module _ (Is : List Item → List ℕ → Bool → Type 0) (kept : List Item) (r
             front,
           )
 
-      -- where there is one such text
+      -- if there is one such text
       pub its_front : ((heard : List Item) (one other : List ℕ) (refusal more : Bool) → Is heard one refusal → Is heard other more →
           one ≡ other) → (other : List ℕ) (refused : Bool) → IsOfInbox Is inputs other refused → AppendsFront old new other
       its_front once other refused is =
@@ -76,7 +76,7 @@ module _ {R : Type 0} (Is : List Item → List ℕ → Bool → Type 0) (kept : 
   kept_front (inr some) =
       some_front Is kept refusals some.text some.refusal some.is_text remaining sources old new holds some.appended inputs are
 
-  -- where there is one such text
+  -- if there is one such text
   pub one_kept_front : ((heard : List Item) (one other : List ℕ) (refusal more : Bool) → Is heard one refusal → Is heard other more →
       one ≡ other) → WritesKeptFront Is kept old new → (other : List ℕ) (refused : Bool) → IsOfInbox Is inputs other refused →
       AppendsFront old new other

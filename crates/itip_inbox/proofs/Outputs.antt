@@ -58,7 +58,7 @@ items_more old mid items i item kept grown bytes so_far within is its grown_is =
     subst (λ (done : List Item). WritesSoFar old mid done grown) (sym one_more)
     (items_push old mid (take i items) item kept grown so_far (grown_is ∙ ap (λ (t : List ℕ). kept ++ t) its))
 
--- a front of what is kept is written
+-- a prefix of what is kept is written
 pub items_moved : (old mid new : Option (List ℕ)) (done : List Item) (kept rest : List ℕ) → WritesSoFar old mid done kept →
     MovesOut mid new kept rest → WritesSoFar old new done rest
 items_moved old mid new done kept rest so_far moved = record {
@@ -68,7 +68,7 @@ items_moved old mid new done kept rest so_far moved = record {
   appended = Appends-trans old mid new so_far.written moved.front so_far.appended moved.appended;
 }
 
--- where what is kept is written in part, a front of all is
+-- if a part of what is kept is written, a prefix of all is
 pub items_front : (old mid new : Option (List ℕ)) (items : List Item) (i : ℕ) (kept : List ℕ) → WritesSoFar old mid (take i items) kept →
     AppendsFront mid new kept → AppendsFront old new (delta_octets items)
 items_front old mid new items i kept so_far front =
@@ -126,7 +126,7 @@ its_batch inputs octets kept refusals refused holds is =
 
 -- ---- the task list
 
--- the octets of the rows of what is kept are those of what was heard
+-- the bytes of the rows of what is kept are those of what was heard
 pub text_of_rows : (octets : List Row → List ℕ) (P : Row → Type 0) (kept heard : List Item) (window : Window) (rows : List Row)
     (text : List ℕ) → AreKept kept heard → AreRowsWhere P kept window rows → length rows ≤ row_limit → text ≡ octets rows →
     IsTextWhere octets P heard window text
@@ -182,7 +182,7 @@ module _ (octets : List Row → List ℕ) (P : Row → Type 0) (kept : List Item
     refusal_front many front =
         inr (record { text = refused_text 31; refusal = true; is_text = many_listed many; appended = front })
 
--- ---- where a fault ends it
+-- ---- if a fault ends it
 
 module _ {R : Type 0} (remaining : R → Option (List ℕ)) (sources : List R) (old new : Option (List ℕ)) (kept : List Item)
     (refusals : List RefusedMessage)

@@ -13,7 +13,7 @@ use Rattle.itip_page.specs.RowMarkup.{row_markup}
 
 module _ (window : Window) (today : ℤ) (asked : RowsByUid) (number : ℕ) (few : AreFewLeft asked number) (old mid : Option (List ℕ))
     (head kept grown : List ℕ) (head_is : head ≡ head_markup window today number) where
-  -- the rows behind the head
+  -- the rows after the head
   abbrev headed : List ℕ
   headed = head ++ flat_map (row_markup today) few.rows
 
@@ -23,7 +23,7 @@ module _ (window : Window) (today : ℤ) (asked : RowsByUid) (number : ℕ) (few
       ap (λ (t : List ℕ). t ++ (flat_map (row_markup today) few.rows ++ foot_markup)) head_is ∙
       ap (λ (n : ℕ). head_markup window today n ++ (flat_map (row_markup today) few.rows ++ foot_markup)) (sym few.number_is)
 
-  -- a front of the head and the rows is one of the page
+  -- a prefix of the head and the rows is one of the page
   pub page_front : AppendsFront old mid headed → AppendsFront old mid (page_markup window today few.rows)
   page_front front =
       subst (λ (t : List ℕ). AppendsFront old mid t) whole (front_longer old mid headed foot_markup front)

@@ -157,13 +157,13 @@ octets_of_same heard others octets again iff a b =
 
 -- ---- the compactions, compacted once more
 
--- what the parts left is heard where the octets are heard again, and none is refused: each as an input
+-- what the parts left is heard when the bytes are heard again, and none is refused: each as an input
 again_inbox : (parts : List (List (List ℕ))) (compacted : List (List ℕ)) (parted : Parted parts compacted) →
     IsInbox compacted (joined parted.batches) []
 again_inbox parts compacted parted =
     subst (λ (ts : List (List ℕ)). IsInbox ts (joined parted.batches) []) (sym parted.octets_are) (written_inbox parted.batches)
 
--- or one behind another in one input
+-- or one after another in one input
 joined_inbox : (parts : List (List (List ℕ))) (compacted : List (List ℕ)) (parted : Parted parts compacted) →
     IsInbox (concat compacted ∷ []) (joined parted.batches) []
 joined_inbox parts compacted parted =

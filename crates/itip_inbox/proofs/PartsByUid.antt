@@ -1,4 +1,4 @@
--- Parts of inputs that tell of no same UID: their lists and compactions, merged, are those of the whole.
+-- Parts of inputs that tell of no UID in common: their lists and compactions, merged, are those of the whole.
 use Rattle.std.proofs.Common.{◌≡◌, ◌↔◌, ◌≤◌, ◌∙◌, ℕ, Bool, List, [], ◌∷◌, ◌++◌, length, refl, sym, ap, subst, inl, inr}
 use Rattle.std.specs.List.{Contains, AllPairs, AllZip, flat_map}
 use Rattle.std.proofs.lemmas.List.Concat.{flat_map-append}

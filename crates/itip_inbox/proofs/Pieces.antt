@@ -1,4 +1,4 @@
--- Pieces that are put one behind the other.
+-- Pieces that are put one after another.
 use Rattle.std.proofs.Common.{◌≡◌, List, [], ◌∷◌, ◌++◌, if◌then◌else◌, Result, Ok, Err, sym, ap, ◌∙◌, append_assoc, append-nil}
 use Rattle.std.specs.Prelude.{OnOk}
 use Rattle.std.specs.Result.{is_ok}
@@ -6,7 +6,7 @@ use Rattle.std.specs.List.{flat_map}
 use Rattle.std.proofs.lemmas.List.Concat.{flat_map-append}
 use Rattle.itip_view.proofs.FlatMap.{then_more}
 
--- what is appended where memory isn't refused
+-- what is appended if no allocation fails
 pub put_ok : {T E A : Type 0} (r : Result T E) (new whole old : List A) → new ≡ (if is_ok r then whole else old) → OnOk r (new ≡ whole)
 put_ok (Ok x) new whole old is = is
 put_ok (Err e) new whole old is = tt

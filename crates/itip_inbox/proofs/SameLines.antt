@@ -1,4 +1,4 @@
--- Texts with the same lines are read as the same items: the numbers of lines only tell where a refusal is.
+-- Texts with the same lines are read as the same items: the numbers of lines tell only where a refusal is.
 use Rattle.std.proofs.Common.{◌≡◌, ◌∙◌, sym, ap, refl, subst, ℕ, ◌+◌, ◌≤◌, Bool, true, false, cond, List, [], ◌∷◌, ◌++◌, length, map}
 use Rattle.std.specs.Prelude.{nat_lt, codes, Option, Some, None, Result, Ok, Err, ◌&&◌}
 use Rattle.std.proofs.lemmas.List.{length-map, map-append}
@@ -54,7 +54,7 @@ bare_placed (TodoLine line) = TodoLine (bare line)
 abbrev all_placed : List Placed → List Placed
 all_placed placed = map bare_placed placed
 
--- what lines are placed as, without numbers, and nothing where they are refused
+-- what lines are placed as, without numbers, and nothing if they are refused
 abbrev placed_so : Result (List Placed) MessageRefusal → Option (List Placed)
 placed_so (Ok placed) = Some (all_placed placed)
 placed_so (Err refusal) = None

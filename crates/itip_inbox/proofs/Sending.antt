@@ -1,4 +1,4 @@
--- Messages that are written beside inputs.
+-- Messages to send, given what inputs tell.
 use Rattle.std.proofs.Common.{◌≡◌, ◌≢◌, sym, subst, refl, ℕ, List, inr, Option, Result, Ok, Err, Vec, Global}
 use Rattle.std.specs.Prelude.{OnOk, IfOk}
 use Rattle.std.specs.Io.KnownBytes.{Appends}

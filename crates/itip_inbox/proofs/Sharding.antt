@@ -88,7 +88,7 @@ second_false : (a b : Bool) → (a || b) ≡ false → b ≡ false
 second_false true b e = absurd (cc)
 second_false false b e = e
 
--- what holds on `Ok` holds where there is no `Err`
+-- what holds on `Ok` holds if there is no `Err`
 pub on_no_err : {P : Type 0} {T E : Type 0} (r : Result T E) → is_err r ≡ false → OnOk r P → P
 on_no_err (Ok x) none holds = holds
 on_no_err (Err x) none holds = absurd (cc)
@@ -186,7 +186,7 @@ module _ (olds news : List Shard) (items : List Item) (are : AreSharded olds) (m
     kept_here : AreKept new (old ++ of_shard count mine items)
     kept_here = (each mine d (own_below olds d are i)).hears (heard mine (own_below olds d are i))
 
-    -- in the shard of its UID an item is where it is among all
+    -- an item is in the shard of its UID exactly where it is among all
     in_new : Contains new i ↔ Contains (kept_in news) i
     in_new = subst (λ (n : ℕ). Contains (slice_index_or news (shard_of n (uid_of i.key)) d).state i ↔ Contains (kept_in news) i) many
         (same_of_own news d stay_sharded i i refl)
@@ -211,7 +211,7 @@ pub kept_both : (xs ys : List Shard) → kept_in (xs ++ ys) ≡ kept_in xs ++ ke
 kept_both [] ys = refl
 kept_both (x ∷ xs) ys = ap (λ (t : List Item). x.state ++ t) (kept_both xs ys) ∙ sym (append_assoc x.state (kept_in xs) (kept_in ys))
 
--- the items of two parts of a list of shards, by canonical octets, are those of the list
+-- the items of two parts of a list of shards, sorted by canonical bytes, are those of the list
 pub items_both : (all front back : List Shard) (first second items : List Item) → all ≡ front ++ back → IsItemsOf first (kept_in front) →
     IsItemsOf second (kept_in back) → IsItemsOf items (first ++ second) → IsItemsOf items (kept_in all)
 items_both all front back first second items cut one two both = record {
@@ -241,13 +241,13 @@ are_none state all empty none =
     subst (λ (xs : List Item). AreKept xs all) (sym empty) (subst (λ (xs : List Item). AreKept [] xs) (sym none)
     (λ i. (λ h. absurd (none_in i h), λ (kept : IsKept [] i). absurd (none_in i kept.best.is_heard))))
 
--- one state more is merged into what is kept of those behind it
+-- one state more is merged into what is kept of those after it
 pub merged_one : (state now behind one : List Item) → AreKept state behind → AreKept now (state ++ one) → AreKept now (one ++ behind)
 merged_one state now behind one keeps merged =
     are_kept_same now (behind ++ one) (one ++ behind) (same_swapped behind one)
     (are_kept_by now (state ++ one) (behind ++ one) (kept_beside behind one state keeps) merged)
 
--- the shard of the UID of an item tells whether all outdo it
+-- the shard of an item's UID tells whether the items of all shards outdo it
 pub outdone_at : (shards : List Shard) (are : AreSharded shards) (n count : ℕ) (uid : List ℕ) (i : Item) (one : Shard) →
     n ≡ shard_of count uid → count ≡ length shards → uid ≡ uid_of i.key → one ≡ slice_index_or shards n one →
     IsOutdone one.state i ↔ IsOutdone (kept_in shards) i
@@ -286,7 +286,7 @@ none_sharded shards some none = record {
   each = λ n d below i h. absurd (none_in i (subst (λ (all : List Item). Contains all i) none (of_all shards n d i below h)));
 }
 
--- memory was refused to none of some shards
+-- no allocation failed in any of some shards
 pub none_refused : (shards : List Shard) → list_any (λ (s : Shard). s.is_refused) shards ≡ false → (n : ℕ) (d : Shard) → n < length shards →
     (slice_index_or shards n d).is_refused ≡ false
 none_refused [] none n d below = absurd (omega (arith, below))

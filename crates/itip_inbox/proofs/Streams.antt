@@ -1,4 +1,4 @@
--- An input that is read by and by.
+-- An input that is read piece by piece.
 use Rattle.std.proofs.Common.{◌≡◌, ◌∙◌, sym, ap, refl, ℕ, ◌+◌, ◌<◌, List, [], ◌∷◌, ◌++◌, length, subst, arith, append_assoc, append-nil}
 use Rattle.std.proofs.Common.{Bool, false, Option, Some, None}
 use Rattle.std.specs.Prelude.{IfSome}
@@ -50,7 +50,7 @@ leaves_cut (Some input) None messages texts came left l cut = absurd l
 leaves_cut (Some input) (Some rest) messages texts came left l cut = l ∙ ap (λ (t : List (List ℕ)). messages ++ t) cut ∙
     sym (append_assoc messages texts (messages_of (left ++ rest)))
 
--- what is held stays so with what is read behind it
+-- what is held stays so with what is read after it
 held_more : (is_long : Bool) (held filled came more : List ℕ) → filled ≡ held ++ more → IsHeld is_long held came →
     IsHeld is_long filled (came ++ more)
 held_more is_long held filled came more grows is = λ others.

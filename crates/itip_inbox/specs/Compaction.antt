@@ -1,4 +1,4 @@
--- The compaction of some inputs: the octets of what is kept of all their messages (our own format).
+-- The compaction of some inputs: the bytes of what is kept of all their messages (our own format).
 use Rattle.std.specs.Prelude.{◌≡◌, ◌↔◌, ℕ, Bool, List, [], ◌∷◌, ◌++◌, Option}
 use Rattle.std.specs.List.{Contains, AllByRecursion, concat}
 use Rattle.std.specs.Io.KnownBytes.{Appends}
@@ -10,14 +10,14 @@ use Rattle.itip_desk.specs.Delta.{delta_octets}
 use Rattle.itip_inbox.specs.Inbox.{IsInbox, is_some_refused}
 use Rattle.itip_inbox.specs.declared.refused.RefusedMessage.{RefusedMessage}
 
--- the octets of the kept items of a set, by canonical octets, each once
+-- the bytes of the kept items of a set, sorted by canonical bytes, each once
 pub record AreKeptOctets (heard : List Item) (octets : List ℕ) : Type 0 where
   pub batch : List Item
   pub ascend : AscendOctets batch
   pub kept : AreKept batch heard
   pub octets_are : octets ≡ delta_octets batch
 
--- The octets of what is kept of all messages of some inputs that are not refused, and whether one is.
+-- The bytes of what is kept of all messages of some inputs that are not refused, and whether one is.
 pub record IsCompaction (inputs : List (List ℕ)) (octets : List ℕ) (refused : Bool) : Type 0 where
   pub heard : List Item
   pub refusals : List RefusedMessage
@@ -25,18 +25,18 @@ pub record IsCompaction (inputs : List (List ℕ)) (octets : List ℕ) (refused 
   pub kept : AreKeptOctets heard octets
   pub refused_is : refused ≡ is_some_refused refusals
 
--- They have one compaction.
+-- They have the same compaction.
 abbrev pub HaveSameCompaction : List (List ℕ) → List (List ℕ) → Type 0
 HaveSameCompaction inputs others = (octets again : List ℕ) (refused other : Bool) → IsCompaction inputs octets refused →
     IsCompaction others again other → again ≡ octets
 
--- What was written, and what is kept to be written, are the octets of these items.
+-- What was written, and then what is kept to be written, are the bytes of these items.
 pub record WritesSoFar (old new : Option (List ℕ)) (done : List Item) (kept : List ℕ) : Type 0 where
   pub written : List ℕ
   pub octets_are : delta_octets done ≡ written ++ kept
   pub appended : Appends old new written
 
--- each of these octets is the compaction of the part beside it; a part is a list of inputs
+-- each of these byte strings is the compaction of the part beside it; a part is a list of inputs
 abbrev pub AreCompactions : List (List (List ℕ)) → List (List ℕ) → Type 0
 AreCompactions [] [] = Unit {0}
 AreCompactions [] (octets ∷ compacted) = ⊥
@@ -48,14 +48,14 @@ abbrev pub all_inputs : List (List (List ℕ)) → List (List ℕ)
 all_inputs [] = []
 all_inputs (part ∷ parts) = part ++ all_inputs parts
 
--- an item that some inputs tell: a message of theirs gives it
+-- an item that some inputs tell: one of their messages gives it
 pub record TellsItem (inputs : List (List ℕ)) (item : Item) : Type 0 where
   pub heard : List Item
   pub refusals : List RefusedMessage
   pub inbox : IsInbox inputs heard refusals
   pub among : Contains heard item
 
--- They tell the same items, in whatever messages and order, each once or more often.
+-- They tell the same items, in any messages and order, each once or more often.
 abbrev pub TellSameItems : List (List ℕ) → List (List ℕ) → Type 0
 TellSameItems inputs others = (item : Item) → TellsItem inputs item ↔ TellsItem others item
 
@@ -71,8 +71,8 @@ pub record HasMessage (inputs : List (List ℕ)) (message : List ℕ) : Type 0 w
 abbrev pub HaveSameMessages : List (List ℕ) → List (List ℕ) → Type 0
 HaveSameMessages inputs others = (message : List ℕ) → HasMessage inputs message ↔ HasMessage others message
 
--- A part ends between two messages, where the rest follows: it has nothing but whole calendars, and behind none of these stands a
--- blank, which would make its last break a fold.
+-- A part ends between two messages, where the rest follows: it consists of whole calendars, and none of these is followed by a blank,
+-- which would make its last break a fold.
 pub record EndsBetween (part rest : List ℕ) : Type 0 where
   pub calendars : List (List ℕ)
   pub whole : part ≡ concat calendars

@@ -20,14 +20,14 @@ is_special octet = (octet == 44) || ((octet == 34) || ((octet == 13) || (octet =
 abbrev pub doubled : ℕ → List ℕ
 doubled octet = if octet == 34 then 34 ∷ 34 ∷ [] else octet ∷ []
 
--- A field stands in quotes where it has an octet that means something.
+-- A field is in quotes if it has an octet that means something.
 abbrev pub field_text : List ℕ → List ℕ
 field_text field = if list_any is_special field then 34 ∷ (flat_map doubled field ++ 34 ∷ []) else field
 
 abbrev pub field_behind : List ℕ → List ℕ
 field_behind field = 44 ∷ field_text field
 
--- fields behind another
+-- fields after another
 abbrev pub fields_behind : List (List ℕ) → List ℕ
 fields_behind fields = flat_map field_behind fields
 
@@ -41,7 +41,7 @@ records_text records = flat_map record_text records
 
 -- ---- fields
 
--- what names a row beside its UID
+-- what names a row besides its UID
 abbrev pub row_name : RowId → Option (List ℕ)
 row_name Single = None
 row_name (At moment) = Some (shown_moment moment)
@@ -52,7 +52,7 @@ abbrev pub field_of : {A : Type 0} → (A → List ℕ) → Option A → List �
 field_of text None = []
 field_of text (Some x) = text x
 
--- what the first record says of the fields
+-- the names of the fields, which are the first record
 abbrev pub field_names : List (List ℕ)
 field_names =
     codes "uid" ∷ codes "id" ∷ codes "sequence" ∷ codes "status" ∷ codes "percent" ∷ codes "priority" ∷ codes "start" ∷ codes "due"
@@ -70,7 +70,7 @@ date_fields row = field_of shown_moment row.start ∷ field_of shown_moment row.
 abbrev pub last_fields : Row → List (List ℕ)
 last_fields row = field_of (λ text. text) row.summary ∷ field_of decimal row.progress ∷ []
 
--- the fields of an attendee, or three empty ones where there is none
+-- the fields of an attendee, or three empty ones if there is none
 abbrev pub attendee_fields : Option ShownAttendee → List (List ℕ)
 attendee_fields None = [] ∷ [] ∷ [] ∷ []
 attendee_fields (Some attendee) =
@@ -81,7 +81,7 @@ abbrev pub record_of : Row → Option ShownAttendee → List (List ℕ)
 record_of row attendee =
     row.uid ∷ (name_fields row ++ (number_fields row ++ (date_fields row ++ (last_fields row ++ attendee_fields attendee))))
 
--- One record for each attendee of a row, or one where it shows none.
+-- One record for each attendee of a row, or one if it shows none.
 abbrev pub records_for : Row → List ShownAttendee → List (List (List ℕ))
 records_for row [] = record_of row None ∷ []
 records_for row (attendee ∷ attendees) = map (λ who. record_of row (Some who)) (attendee ∷ attendees)
@@ -92,7 +92,7 @@ attendee_record_text row attendee = record_text (record_of row (Some attendee))
 abbrev pub records_of : Row → List (List (List ℕ))
 records_of row = records_for row row.attendees
 
--- the records of rows, behind the one that names the fields
+-- the records of rows, after the one that names the fields
 abbrev pub records_of_rows : List Row → List (List (List ℕ))
 records_of_rows rows = field_names ∷ flat_map records_of rows
 

@@ -30,7 +30,7 @@ pub record IsExplained (uid : List ℕ) (names : List SourceName) (inputs : List
   pub inbox : IsInbox inputs heard refusals
   pub refused_is : refused ≡ is_some_refused refusals
 
--- What came of it: the explanation was written; or nothing was, since no message tells an item of the UID.
+-- What came of it: the explanation was written; or nothing was, as no message tells an item of the UID.
 abbrev pub Explains : List ℕ → List SourceName → List (List ℕ) → Option (List ℕ) → Option (List ℕ) → Explained → Type 0
 Explains uid names inputs old new (Told refused) = TellsOf uid inputs × WritesOutput (IsExplained uid names inputs) old new refused
 Explains uid names inputs old new Unknown = (¬ TellsOf uid inputs) × Keeps old new

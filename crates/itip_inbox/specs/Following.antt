@@ -16,7 +16,7 @@ use Rattle.itip_inbox.specs.declared.refused.RefusedMessage.{RefusedMessage}
 abbrev pub is_about : List ℕ → Item → Bool
 is_about uid item = bytes_eq (uid_of item.key) uid
 
--- those of some items that are about the UID that is followed, in their order, each as often as it is there
+-- the items that are about the followed UID, in their order, each as often as it is there
 abbrev pub items_about : Option (List ℕ) → List Item → List Item
 items_about None items = []
 items_about (Some uid) items = filter (is_about uid) items
@@ -31,7 +31,7 @@ told_in place items = map (told_item place) items
 abbrev pub place_of : Placed → Place
 place_of placed = record { source = placed.source; message = placed.message }
 
--- What these messages tell of a UID, by what stands beside each: in the order of the messages, and of the items of each.
+-- What these messages tell of a UID, by the answer to each: in the order of the messages, and of the items of each.
 abbrev pub told_at : Option (List ℕ) → List Placed → List (Result (List Item) MessageRefusal) → List ToldItem
 told_at about [] answers = []
 told_at about (placed ∷ messages) [] = []
@@ -51,7 +51,7 @@ pub record TellAbout (about : Option (List ℕ)) (inputs : List (List ℕ)) (tol
   pub cut : AllZip IsCutInto inputs messages
   pub tell : AreTold about (placed_of 0 messages) told
 
--- This is kept of some messages, whatever they are, and they have these refusals and tell this of a UID.
+-- This is what is kept of some messages, which have these refusals and tell this of a UID; which messages they are is not said.
 pub record HasHeard (about : Option (List ℕ)) (kept : List Item) (refusals : List RefusedMessage) (told : List ToldItem) : Type 0 where
   pub messages : List Placed
   pub heard : List Item

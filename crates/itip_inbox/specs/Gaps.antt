@@ -1,5 +1,5 @@
--- An input that is cut in the gaps between its messages, where empty lines may stand (RFC 5545 3.1 and 3.4; that messages are cut
--- so is our own rule).
+-- An input that is cut in the gaps between its messages, where empty lines may be (RFC 5545 3.1 and 3.4; that messages are cut
+-- this way is our own rule).
 use Rattle.std.specs.Prelude.{◌≡◌, ◌≤◌, ◌⊎◌, ℕ, List, [], ◌∷◌, length}
 use Rattle.std.specs.List.{AllByRecursion, concat}
 use Rattle.itip_lines.specs.Reading.{text_limit}
@@ -13,8 +13,8 @@ IsEmptyLine text = (text ≡ 10 ∷ []) ⊎ (text ≡ 13 ∷ (10 ∷ []))
 abbrev pub IsCalendarOrEmptyLine : List ℕ → Type 0
 IsCalendarOrEmptyLine text = IsCalendar text ⊎ IsEmptyLine text
 
--- A part ends in a gap, before, between or behind messages, where the rest follows: it has nothing but whole calendars and empty lines, and
--- behind none of these stands a blank, which would make its last break a fold. The gap may have empty lines on both sides of the end.
+-- A part ends in a gap, before, between or after messages, where the rest follows: it consists of whole calendars and empty lines, and
+-- none of these is followed by a blank, which would make its last break a fold. The gap may have empty lines on both sides of the end.
 pub record EndsInGap (part rest : List ℕ) : Type 0 where
   pub pieces : List (List ℕ)
   pub whole : part ≡ concat pieces
@@ -32,6 +32,6 @@ pub record IsPartedInGaps (whole : List ℕ) (parts : List (List ℕ)) : Type 0 
   pub joined : whole ≡ concat parts
   pub gaps : EachEndsInGap parts
 
--- No message of these inputs has more octets than a text may have. The empty lines before a message count, as they are of it.
+-- No message of these inputs has more bytes than a text may have. The empty lines before a message count, as they are part of it.
 abbrev pub HaveShortMessages : List (List ℕ) → Type 0
 HaveShortMessages inputs = (message : List ℕ) → HasMessage inputs message → length message ≤ text_limit

@@ -8,7 +8,7 @@ use Rattle.itip_state.specs.Kept.{AreKept}
 use Rattle.itip_message.specs.Cutting.{IsCutInto}
 use Rattle.itip_inbox.specs.declared.refused.RefusedMessage.{RefusedMessage}
 
--- it is known that a reader gives these octets from here on
+-- it is known that a reader gives these bytes from here on
 abbrev pub Gives : {R : Type 0} → (R → Option (List ℕ)) → R → List ℕ → Type 0
 Gives remaining source input = remaining source ≡ Some input
 
@@ -22,13 +22,13 @@ pub record Placed : Type 0 where
   pub message : ℕ
   pub text : List ℕ
 
--- the messages of the input at this place, of which the first has this number
+-- the messages of the input at this place, the first of which has this number
 abbrev pub placed_from : ℕ → ℕ → List (List ℕ) → List Placed
 placed_from source number [] = []
 placed_from source number (text ∷ texts) =
     (record { source = source; message = number; text = text }) ∷ placed_from source (number + 1) texts
 
--- the messages of several inputs, of which the first has this place
+-- the messages of several inputs, the first of which has this place
 abbrev pub placed_of : ℕ → List (List (List ℕ)) → List Placed
 placed_of source [] = []
 placed_of source (texts ∷ rest) = placed_from source 1 texts ++ placed_of (source + 1) rest
@@ -38,7 +38,7 @@ abbrev pub IsAnswer : List ℕ → Result (List Item) MessageRefusal → Type 0
 IsAnswer text (Ok items) = ReadsMessage text items
 IsAnswer text (Err cause) = RefusesMessage text cause
 
--- each of these messages is what stands beside it
+-- each of these messages has the answer beside it
 abbrev pub AreAnswers : List Placed → List (Result (List Item) MessageRefusal) → Type 0
 AreAnswers [] [] = Unit {0}
 AreAnswers [] (answer ∷ answers) = ⊥
@@ -51,7 +51,7 @@ heard_of [] = []
 heard_of (Ok items ∷ answers) = items ++ heard_of answers
 heard_of (Err cause ∷ answers) = heard_of answers
 
--- the refused ones of these messages, by what stands beside each
+-- the refused ones of these messages, by the answer to each
 abbrev pub refusals_at : List Placed → List (Result (List Item) MessageRefusal) → List RefusedMessage
 refusals_at [] answers = []
 refusals_at (placed ∷ messages) [] = []
@@ -59,7 +59,7 @@ refusals_at (placed ∷ messages) (Ok items ∷ answers) = refusals_at messages 
 refusals_at (placed ∷ messages) (Err cause ∷ answers) =
     (record { source = placed.source; message = placed.message; refusal = cause }) ∷ refusals_at messages answers
 
--- Of these messages, those that are not refused give these items, and these are the others.
+-- Those of these messages that are not refused give these items, and these are the others.
 pub record Hears (messages : List Placed) (heard : List Item) (refusals : List RefusedMessage) : Type 0 where
   pub answers : List (Result (List Item) MessageRefusal)
   pub each : AreAnswers messages answers

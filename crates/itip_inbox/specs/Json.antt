@@ -80,7 +80,7 @@ rows_array rows = array (items_of (map row_object rows))
 abbrev pub object_text : Row → List ℕ
 object_text row = print (json_tokens (row_object row))
 
--- the object of a row behind another
+-- the object of a row after another
 abbrev pub object_behind : Row → List ℕ
 object_behind row = codes ",\n" ++ object_text row
 
@@ -99,7 +99,7 @@ array_text (row ∷ rows) = codes "[\n" ++ (object_text row ++ (flat_map object_
 abbrev pub IsSmall : ℕ → Type 0
 IsSmall n = n < 2 ^ 64
 
--- the numbers of a row are those of its types, or larger ones
+-- the numbers of a row are below 2^64, as those of its types are
 pub record HasSmallNumbers (row : Row) : Type 0 where
   pub seq : IsSmall row.seq
   pub percent : IfSome row.percent IsSmall

@@ -8,13 +8,13 @@ use Rattle.itip_desk.specs.Octets.{AscendOctets}
 use Rattle.itip_inbox.specs.Inbox.{IsInbox, is_some_refused}
 use Rattle.itip_inbox.specs.declared.refused.RefusedMessage.{RefusedMessage}
 
--- what is kept of two sets together and not of the first alone, by canonical octets, each once
+-- what is kept of two sets together and not of the first alone, sorted by canonical bytes, each once
 pub record AreLacking (told heard batch : List Item) : Type 0 where
   pub ascend : AscendOctets batch
   pub same : (item : Item) → Contains batch item ↔ (IsKept (told ++ heard) item × (¬ IsKept told item))
 
--- The octets of what is kept of all messages of two lists of inputs and not of those of the first alone, where they are not refused;
--- and whether one of either is.
+-- The bytes of what is kept of all messages of two lists of inputs that are not refused, and not of those of the first alone; and
+-- whether a message of either is refused.
 pub record IsNews (than inputs : List (List ℕ)) (octets : List ℕ) (refused : Bool) : Type 0 where
   pub told : List Item
   pub noted : List RefusedMessage

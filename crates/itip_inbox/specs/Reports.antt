@@ -9,17 +9,17 @@ use Rattle.itip_report.specs.declared.report_name.ReportName.{ReportName}
 use Rattle.itip_desk.specs.Refusals.{refused_text}
 use Rattle.itip_inbox.specs.OfInbox.{IsOfInbox}
 
--- a line with its end
+-- a line with LF after it
 abbrev pub ended : List ℕ → List ℕ
 ended line = line ++ 10 ∷ []
 
--- the lines of a report over what was heard, each with its end
+-- the lines of a report over what was heard, each with LF after it
 pub record IsReportText (name : ReportName) (heard : List Item) (window : Window) (text : List ℕ) : Type 0 where
   pub lines : List (List ℕ)
   pub are_lines : IsReportOf name heard window lines
   pub text_is : text ≡ flat_map ended lines
 
--- The text of the report; or `refused 31`, which is a refusal, where it tells of the rows of the window and these are too many.
+-- The text of the report; or `refused 31`, which is a refusal, if it tells of the rows of the window and these are too many.
 abbrev pub IsReported : ReportName → List Item → Window → List ℕ → Bool → Type 0
 IsReported name heard window text refusal =
     (IsReportText name heard window text × (refusal ≡ false))

@@ -1,4 +1,4 @@
--- A message that is written beside some inputs (RFC 5546 3.4).
+-- A message to send, given what some inputs tell (RFC 5546 3.4).
 use Rattle.std.specs.Prelude.{◌≡◌, ◌≢◌, ℕ, Bool, List, Option}
 use Rattle.std.specs.Io.KnownBytes.{Keeps}
 use Rattle.itip_items.specs.declared.item.Item.{Item}
@@ -14,7 +14,7 @@ use Rattle.itip_inbox.specs.declared.refused.RefusedMessage.{RefusedMessage}
 use Rattle.itip_inbox.specs.declared.sent.Sent.{Sent}
 use Rattle.itip_inbox.specs.declared.sent.Sent.TheVariants.{Done, Undone}
 
--- The message that is asked for, written at a moment beside all that some inputs tell, and whether a message of theirs is refused.
+-- The message that is asked for, written at a moment given all that some inputs tell, and whether a message of theirs is refused.
 pub record IsMessage (errand : Errand) (at : Stamp) (inputs : List (List ℕ)) (octets : List ℕ) (refused : Bool) : Type 0 where
   pub heard : List Item
   pub refusals : List RefusedMessage
@@ -22,14 +22,14 @@ pub record IsMessage (errand : Errand) (at : Stamp) (inputs : List (List ℕ)) (
   pub written : IsWritten errand heard at octets
   pub refused_is : refused ≡ is_some_refused refusals
 
--- what RFC 5546 3.4 wants in it and isn't there
+-- what RFC 5546 3.4 wants in it and it lacks
 pub record Lacks (errand : Errand) (inputs : List (List ℕ)) (lacking : List PropertyName) : Type 0 where
   pub heard : List Item
   pub refusals : List RefusedMessage
   pub inbox : IsInbox inputs heard refusals
   pub lacks : LacksOf errand heard lacking
 
--- why it can't be written beside all that some inputs tell
+-- why it can't be written given all that some inputs tell; never for lack of memory
 pub record CannotBeSent (errand : Errand) (at : Stamp) (inputs : List (List ℕ)) (cause : WritingError) : Type 0 where
   pub heard : List Item
   pub refusals : List RefusedMessage

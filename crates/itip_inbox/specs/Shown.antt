@@ -8,11 +8,11 @@ use Rattle.itip_message.specs.declared.error.MessageRefusal.{MessageRefusal}
 use Rattle.itip_desk.specs.Delta.{delta_octets, GivesBatch}
 use Rattle.itip_desk.specs.Refusals.{refused_text}
 
--- how many items there are, and their octets
+-- how many items there are, and their bytes
 abbrev pub items_text : List Item → List ℕ
 items_text batch = codes "items " ++ decimal (length batch) ++ 10 ∷ delta_octets batch
 
--- the items that a text is read as, by canonical octets and each once
+-- the items that a text is read as, sorted by canonical bytes, each once
 pub record ShowsItems (text shown : List ℕ) : Type 0 where
   pub batch : List Item
   pub gives : GivesBatch text batch
@@ -23,7 +23,7 @@ pub record ShowsRefusal (text : List ℕ) (refusal : MessageRefusal) (shown : Li
   pub refuses : RefusesMessage text refusal
   pub shown_is : shown ≡ refused_text (number_of refusal)
 
--- What is shown of a text: its items, or its refusal where there is one.
+-- What is shown of a text: its items, or its refusal if there is one.
 abbrev pub IsShownAs : List ℕ → Option MessageRefusal → List ℕ → Type 0
 IsShownAs text None shown = ShowsItems text shown
 IsShownAs text (Some refusal) shown = ShowsRefusal text refusal shown

@@ -8,7 +8,7 @@ use Rattle.itip_view.specs.declared.window.Window.{Window}
 use Rattle.itip_desk.specs.Refusals.{refused_text}
 use Rattle.itip_inbox.specs.OfInbox.{IsOfInbox}
 
--- the octets that rows are written as, of those of a window of which this holds, where there are not too many
+-- the bytes of the rows of a window of which this holds, if there are not too many
 pub record IsTextWhere (octets : List Row → List ℕ) (P : Row → Type 0) (heard : List Item) (window : Window) (text : List ℕ) : Type 0
   where
     pub rows : List Row
@@ -16,7 +16,7 @@ pub record IsTextWhere (octets : List Row → List ℕ) (P : Row → Type 0) (he
     pub few : length rows ≤ row_limit
     pub text_is : text ≡ octets rows
 
--- The list of the rows of a window of which this holds; or `refused 31`, which is a refusal, where there are too many.
+-- The list of the rows of a window of which this holds; or `refused 31`, which is a refusal, if there are too many.
 abbrev pub IsListed : (List Row → List ℕ) → (Row → Type 0) → List Item → Window → List ℕ → Bool → Type 0
 IsListed octets P heard window text refusal =
     (IsTextWhere octets P heard window text × (refusal ≡ false))

@@ -1,4 +1,4 @@
-//! The octets of what is kept of some inputs.
+//! The bytes of what is kept of some inputs.
 ghost use Rattle.std.specs.Prelude.{◌≢◌, ℕ, Bool, List, IfOk, IfErr, OnOk, OnErr, IsErrOf};
 ghost use Rattle.std.specs.Io.KnownBytes.{Appends, Keeps};
 ghost use Rattle.itip_desk.specs.Delta.{delta_octets};
@@ -14,11 +14,11 @@ use std::alloc::Global;
 use std::io::{Read, Write};
 use std::thread::Threads;
 
-/// Reads sources to their ends and writes the octets of what is kept of all their messages, and says whether one was refused.
+/// Reads sources to their ends and writes the bytes of what is kept of all their messages. Returns whether one was refused.
 ///
-/// The octets are those of a delta: of the kept items, by canonical octets, each once. Refused messages are told to `watch`,
-/// in the order of the sources, before anything is written; and all sources are read before that. After a fault of reading
-/// nothing was written, after another fault a front of the output.
+/// The bytes are those of a delta of the kept items, sorted by canonical bytes, each once. Once all sources are read, and before
+/// anything is written, `watch` is told of the refused messages in the order of the sources. On [`StreamFault::Read`] nothing has
+/// been written; on another error a prefix of the output has been.
 pub fn compact<R: Read + Drop, W: Write, S: Watch>(
     rt: &(impl Threads + Sync),
     alloc: Global,
@@ -43,7 +43,8 @@ pub fn compact<R: Read + Drop, W: Write, S: Watch>(
     Ok(is_refused)
 }
 
-/// Writes the canonical octets of items, in their order. After a fault a front of them was written.
+/// Writes the canonical bytes of items, in their order. On an error, which is never [`StreamFault::Read`], a prefix of them has been
+/// written.
 pub fn write_items<W: Write>(
     alloc: Global,
     items: &[SharedItem],

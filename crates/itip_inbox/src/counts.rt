@@ -3,7 +3,7 @@ ghost use Rattle.std.specs.Prelude.{◌≡◌, ◌+◌, IfOk, IfErr};
 
 use itip_streams::StreamFault;
 
-/// So many more. Numbers of messages end where those of 64 bits do.
+/// Returns `count + more`, or [`StreamFault::Read`] if that is more than `u64::MAX`.
 pub(crate) fn count_more(count: u64, more: u64) -> Result<u64, StreamFault>
     ensures sum { IfOk result (λ sum. sum ≡ count + more) }
     ensures fault { IfErr result (λ fault. fault ≡ StreamFault.Read) }

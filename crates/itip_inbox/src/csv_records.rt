@@ -23,12 +23,12 @@ use itoa::Buffer;
 use std::alloc::{AllocError, Global};
 use std::io::Write;
 
-// What the first record says of the fields, in their order.
+// The first record: the names of the fields, in their order.
 const HEADS: &[u8] =
     b"uid,id,sequence,status,percent,priority,start,due,summary,progress,attendee,partstat,attendee_percent\n";
 
-/// Records of comma-separated fields, each on a line: one that names the fields, and then for each row one for each of its
-/// attendees, or one where it shows none. A value that is absent is an empty field.
+/// Records of comma-separated fields, each on a line: one that names the fields, then for each row one record for each of its
+/// attendees, or one if it shows none. An absent value is an empty field.
 #[derive(Clone, Copy, Debug)]
 pub struct CsvList;
 
@@ -72,7 +72,7 @@ fn put_heads(out: &mut Vec<u8>) -> Result<(), AllocError>
     out.extend_from_slice(HEADS)
 }
 
-/// Appends a record of a row for each of these attendees.
+/// Appends a record of a row for each of `attendees`.
 fn put_records(out: &mut Vec<u8>, row: &Row, attendees: &[ShownAttendee]) -> Result<(), AllocError>
     ensures { OnOk result (out.new.items ≡ out.old.items ++ flat_map (attendee_record_text row.now) attendees.now) }
 {
@@ -204,7 +204,7 @@ fn put_behind(out: &mut Vec<u8>, field: &str) -> Result<(), AllocError>
     put_field(out, field)
 }
 
-/// Appends a field, in quotes where it has an octet that means something.
+/// Appends a field, in quotes if it has a comma, a quote, CR or LF.
 fn put_field(out: &mut Vec<u8>, field: &str) -> Result<(), AllocError>
     ensures { OnOk result (out.new.items ≡ out.old.items ++ field_text field.now) }
 {
@@ -254,7 +254,7 @@ fn put_octet(out: &mut Vec<u8>, octet: u8) -> Result<(), AllocError>
     Ok(())
 }
 
-/// What is written of rows is read as their records, and as no others, by a reader of comma-separated fields (that of `csv`).
+/// A reader of comma-separated fields (that of `csv`) reads what is written of rows as their records, and as nothing else.
 pub fn records_are_read()
     ensures { (rows : List Row) → records default_config (csv_text rows) ≡ records_of_rows rows }
 {}

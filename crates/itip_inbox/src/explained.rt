@@ -1,4 +1,4 @@
-//! Why the rows of one to-do look so.
+//! Why the rows of one to-do look as they do.
 ghost use Rattle.std.specs.Prelude.{ℕ, List, IfOk, OnErr, IsErrOf};
 ghost use Rattle.std.specs.Io.KnownBytes.{Keeps};
 ghost use Rattle.itip_inbox.specs.Explaining.{Explains, IsExplained};
@@ -27,10 +27,10 @@ pub enum Explained {
 }
 
 /// Reads sources to their ends and writes a line for each item of a UID that their messages tell, as [`explanation`] does; or
-/// nothing where no message tells one. `names` are those of the sources, in their order.
+/// nothing if no message tells one. `names` are those of the sources, in their order.
 ///
-/// Refused messages are told to `watch`, in the order of the sources, before anything is written; and all sources are read
-/// before that. After a fault of reading nothing was written, after another fault a front of the explanation.
+/// Once all sources are read, and before anything is written, `watch` is told of the refused messages in the order of the sources. On
+/// [`StreamFault::Read`] nothing has been written; on another error a prefix of the explanation has been.
 pub fn explain<R: Read + Drop, W: Write, S: Watch>(
     rt: &(impl Threads + Sync),
     alloc: Global,

@@ -1,4 +1,4 @@
-//! Sources that are read, and what was refused of them told.
+//! Reads sources, and tells what was refused of them.
 ghost use Rattle.std.specs.Prelude.{◌≢◌, ℕ, List, IfOk, IfErr};
 ghost use Rattle.std.specs.Option.{option_copied};
 ghost use Rattle.itip_inbox.specs.Following.{HasHeard, TellAbout};
@@ -15,7 +15,7 @@ use std::alloc::Global;
 use std::io::Read;
 use std::thread::Threads;
 
-/// Reads sources as [`read_sources`] does, and once all are read tells of each refused message.
+/// Reads sources as [`read_sources`] does, and once all are read tells the watch of each refused message.
 pub(crate) fn gather<R: Read + Drop, S: Watch>(
     rt: &(impl Threads + Sync),
     alloc: Global,
@@ -36,7 +36,7 @@ pub(crate) fn gather<R: Read + Drop, S: Watch>(
     Ok(inbox)
 }
 
-/// The same, where no UID is followed, into an inbox that may hear more: what it keeps lies in shards.
+/// Like [`gather`], but follows no UID and returns an inbox that may hear more: what it keeps is in shards.
 pub(crate) fn gather_shards<R: Read + Drop, S: Watch>(
     rt: &(impl Threads + Sync),
     alloc: Global,
@@ -54,7 +54,7 @@ pub(crate) fn gather_shards<R: Read + Drop, S: Watch>(
     Ok(inbox)
 }
 
-/// Tells of each refused message of sources that stand after so many others.
+/// Tells the watch of each refused message of sources that come after `before` others.
 pub(crate) fn tell<S: Watch>(before: usize, refusals: &[RefusedMessage], watch: &mut S) {
     for refused in refusals {
         watch.refused(&RefusedMessage {

@@ -6,15 +6,15 @@ use crate::refused::RefusedMessage;
 use itip_explain::ToldItem;
 use itip_state::State;
 
-/// What is kept of the messages of some inputs, which were refused, and what they tell of one to-do.
+/// What is kept of the messages of some inputs, which of them were refused, and what they tell of one to-do.
 #[derive(Drop)]
 pub struct Inbox {
     /// What is kept of the messages.
     pub state: State,
     /// The refused messages, in the order of the inputs and of their messages.
     pub refusals: Vec<RefusedMessage>,
-    /// The items of the UID that is followed, in the order of the inputs, of their messages and of `read_message`, each as often
-    /// as a message tells it; none where no UID is followed.
+    /// The items of the followed UID, in the order of the inputs, of their messages and of `read_message`, each as often as a
+    /// message tells it; none if no UID is followed.
     pub told: Vec<ToldItem>,
     /// How many inputs there were.
     pub source: usize,

@@ -28,7 +28,7 @@ use std::alloc::{AllocError, Global};
 use std::io::Write;
 use std::mem;
 
-/// One JSON array, with the object of each row on a line of its own. A value that is absent is null.
+/// One JSON array, with the object of each row on a line of its own. An absent value is null.
 #[derive(Clone, Copy, Debug)]
 pub struct JsonList;
 
@@ -58,7 +58,7 @@ impl ListForm for JsonList {
     }
 }
 
-/// The rows of the next UID that has some; none where no row is left.
+/// The rows of the next UID that has some; none if no row is left.
 fn first_rows(alloc: Global, rows: &mut RowsByUid<'_, '_>) -> Result<Vec<Row>, AllocError>
     ensures { IfOk result (λ first. (all : List Row) → AreLeft rows.old all → IsFrontOf rows.new first.items all) }
 {
@@ -70,7 +70,7 @@ fn first_rows(alloc: Global, rows: &mut RowsByUid<'_, '_>) -> Result<Vec<Row>, A
     Ok(Vec::new(alloc))
 }
 
-/// Opens the array with some rows, of which there is at least one. What is kept is written as [`write_rows`] does.
+/// Opens the array with some rows; if there are none, does nothing. What is kept is written as [`write_rows`] does.
 fn open_array<W: Write>(rows: &[Row], writer: &mut W, kept: &mut Vec<u8>) -> Result<(), StreamFault>
     ensures moved { OnOk result (MovesOut (W.contents writer.old) (W.contents writer.new)
         (kept.old.items ++ opened_text rows.now) kept.new.items) }
@@ -85,7 +85,7 @@ fn open_array<W: Write>(rows: &[Row], writer: &mut W, kept: &mut Vec<u8>) -> Res
     write_some_rows(others, &NextObjects, writer, kept)
 }
 
-/// The objects of rows that stand behind another.
+/// The objects of rows after the first.
 #[derive(Clone, Copy)]
 struct NextObjects;
 
@@ -229,7 +229,7 @@ fn write_status(writer: &mut Writer, status: Option<Status>) -> Result<(), Alloc
     }
 }
 
-/// Writes a name and a text, or null where there is none.
+/// Writes a name and a text, or null if there is none.
 fn write_text(writer: &mut Writer, name: &str, text: Option<&str>) -> Result<(), AllocError>
     ensures tokens { OnOk result (writer.new.tokens
         ≡ writer.old.tokens ++ (key name.now ∷ json_tokens (text_json (option_copied text.entry)))) }
@@ -242,7 +242,7 @@ fn write_text(writer: &mut Writer, name: &str, text: Option<&str>) -> Result<(),
     }
 }
 
-/// Writes a name and a number, or null where there is none.
+/// Writes a name and a number, or null if there is none.
 fn write_number(writer: &mut Writer, name: &str, number: Option<u8>) -> Result<(), AllocError>
     ensures tokens { OnOk result (writer.new.tokens
         ≡ writer.old.tokens ++ (key name.now ∷ json_tokens (number_json number))) }
@@ -255,8 +255,8 @@ fn write_number(writer: &mut Writer, name: &str, number: Option<u8>) -> Result<(
     }
 }
 
-/// The object of a row is read as its members, and the text of a list, which is that of an array and a line break, as the array of these
-/// objects (RFC 8259).
+/// The object of a row is read as its members, and the text of a list, an array and a line break, as the array of these objects
+/// (RFC 8259).
 pub fn objects_are_read()
     ensures object { (row : Row) → HasSmallNumbers row → document (object_text row) ≡ Some (row_object row) }
     ensures array { (rows : List Row) → AllByRecursion HasSmallNumbers rows → document (array_text rows) ≡ Some (rows_array rows) }

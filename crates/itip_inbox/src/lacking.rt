@@ -17,12 +17,12 @@ use std::alloc::{AllocError, Global};
 use std::io::{Read, Write};
 use std::thread::Threads;
 
-/// Reads `than` and then `sources` to their ends, and writes the octets of what the former lack of the latter: of what is kept of
-/// all their messages what is not kept of those of `than` alone, by canonical octets, each once. Says whether a message was
-/// refused. Compacted with `than` this gives what all sources give, and no item can be left out.
+/// Reads `than` and then `sources` to their ends, and writes the bytes of what the former lack of the latter: of the items that are
+/// kept of all their messages, those that are not kept of `than` alone, sorted by canonical bytes, each once. Returns whether a
+/// message was refused. Compacted with `than`, the output gives what all sources give, and no item of it can be left out.
 ///
-/// The watch is told of `than` and `sources` as of one list. Refused messages are told in its order, before anything is written;
-/// and all sources are read before that. After a fault of reading nothing was written, after another fault a front of the output.
+/// The watch is told of `than` and `sources` as one list, and of refused messages in its order, once all sources are read and before
+/// anything is written. On [`StreamFault::Read`] nothing has been written; on another error a prefix of the output has been.
 pub fn news<R: Read + Drop, W: Write, S: Watch>(
     rt: &(impl Threads + Sync),
     alloc: Global,
@@ -52,7 +52,7 @@ pub fn news<R: Read + Drop, W: Write, S: Watch>(
     Ok(is_refused || inbox.has_refusals())
 }
 
-/// What is kept of two states together and not of the first alone, by canonical octets, each once.
+/// The items that are kept of two states together and not of the first alone, sorted by canonical bytes, each once.
 fn lacking(alloc: Global, known: &State, more: &State) -> Result<Vec<SharedItem>, AllocError>
     ensures { IfOk result (λ items. (told heard : List Item) → AreKept known.now told → AreKept more.now heard →
         AreLacking told heard items.items) }

@@ -1,4 +1,4 @@
-//! The laws of compactions, lists, reports and news. They hold with no code: each function is empty.
+//! The laws of compactions, lists, reports and news. They need no code: each function is empty.
 ghost use Rattle.std.specs.Prelude.{◌≡◌, ◌≢◌, ◌∷◌, ◌++◌, [], ℕ, Bool, false, List};
 ghost use Rattle.std.specs.List.{concat};
 ghost use Rattle.itip_items.specs.declared.item.Item.{Item};
@@ -19,7 +19,7 @@ ghost use Rattle.itip_inbox.specs.PartsByUid.{IsKeptBatch, AreMergedBatches};
 ghost use Rattle.itip_inbox.specs.Reports.{IsReport};
 ghost use Rattle.itip_inbox.specs.TaskList.{IsTaskList};
 
-/// Inputs have a compaction, and only one: its octets, and whether a message was refused.
+/// Inputs have exactly one compaction: its bytes, and whether a message was refused.
 pub fn one_compaction()
     ensures some { (inputs : List (List ℕ)) → (octets : List ℕ) × (refused : Bool) × IsCompaction inputs octets refused }
     ensures octets { (inputs : List (List ℕ)) (octets others : List ℕ) (refused other : Bool) →
@@ -28,9 +28,9 @@ pub fn one_compaction()
         IsCompaction inputs octets refused → IsCompaction inputs others other → refused ≡ other }
 {}
 
-/// Only the items that inputs tell matter: inputs that tell the same ones, in whatever order and number, cut into whatever
-/// messages, have the same compaction, and in each window the same task list, whichever rows are wanted, in each form, and the same
-/// reports; and they have the same news beside others that tell the same ones.
+/// Only the items that inputs tell matter. Inputs that tell the same items, in any order and number and cut into any messages, have
+/// the same compaction; in each window the same reports and the same task list, whichever rows are wanted and in each form; and the
+/// same news beside others that tell the same items.
 pub fn only_items_matter()
     ensures compaction { (inputs others : List (List ℕ)) (octets again : List ℕ) (refused other : Bool) → TellSameItems inputs others →
         IsCompaction inputs octets refused → IsCompaction others again other → again ≡ octets }
@@ -46,9 +46,9 @@ pub fn only_items_matter()
         IsNews known others again other → again ≡ octets }
 {}
 
-/// Parts that were compacted apart, and the results once more, give the octets that the whole gives, wherever the parts tell the
-/// items that the whole tells. The results may be inputs of their own, or one input in which they stand one behind another. No
-/// message of theirs is refused.
+/// If parts tell the items that the whole tells, compacting the parts apart and then their results gives the bytes of the whole's
+/// compaction. The results may be inputs of their own, or one input that has them one after another. None of their messages is
+/// refused.
 pub fn compaction_of_compactions()
     ensures octets { (parts : List (List (List ℕ))) (compacted whole : List (List ℕ)) (octets again : List ℕ) (refused other : Bool) →
         TellSameItems whole (all_inputs parts) → AreCompactions parts compacted →
@@ -62,12 +62,11 @@ pub fn compaction_of_compactions()
         AreCompactions parts compacted → IsCompaction (concat compacted ∷ []) again other → other ≡ false }
 {}
 
-/// Inputs that have the same messages, in whatever order and each once or more often, tell the same items. The parts of an input
-/// that is cut between messages have its messages: there each part but the last has nothing but whole calendars, each up to the
-/// break behind its END:VCALENDAR, and no blank stands behind a calendar. Where each part but the last may have empty lines too,
-/// before, between or behind its calendars, and no blank stands behind any of these, the parts tell each item that the whole tells.
-/// They tell no other where no message of the whole has more octets than a text may have. The empty lines before a message count,
-/// as they are of it.
+/// Inputs that have the same messages, in any order and each once or more often, tell the same items. The parts of an input that is
+/// cut between messages have its messages: there each part but the last consists of whole calendars, each up to the break after its
+/// END:VCALENDAR, and no blank follows a calendar. If each part but the last may also have empty lines before, between or after its
+/// calendars, and no blank follows any of these, the parts tell each item that the whole tells. They tell no other if no message of
+/// the whole has more bytes than a text may have. The empty lines before a message count, as they are part of it.
 pub fn items_of_parts()
     ensures messages { (inputs others : List (List ℕ)) → HaveSameMessages inputs others → TellSameItems inputs others }
     ensures parted { (whole : List ℕ) (parts : List (List ℕ)) → IsPartedInto whole parts → HaveSameMessages (whole ∷ []) parts }
@@ -77,7 +76,7 @@ pub fn items_of_parts()
         TellSameItems (whole ∷ []) parts }
 {}
 
-/// Inputs have news beside others, and only one: its octets, and whether a message was refused.
+/// Inputs have exactly one batch of news beside others: its bytes, and whether a message was refused.
 pub fn one_news()
     ensures some { (than inputs : List (List ℕ)) → (octets : List ℕ) × (refused : Bool) × IsNews than inputs octets refused }
     ensures octets { (than inputs : List (List ℕ)) (octets others : List ℕ) (refused other : Bool) →
@@ -86,8 +85,8 @@ pub fn one_news()
         IsNews than inputs octets refused → IsNews than inputs others other → refused ≡ other }
 {}
 
-/// The news that inputs have beside others, compacted with these others, give the octets that all of them give, and no message of
-/// the news is refused. And no item of the news can be left out: whatever doesn't tell it gives other octets with these others.
+/// The news that inputs have beside others, compacted with these others, give the bytes that all of them give, and no message of the
+/// news is refused. No item of the news can be left out: whatever doesn't tell it gives other bytes with these others.
 pub fn compaction_with_news()
     ensures octets { (than inputs : List (List ℕ)) (news octets again : List ℕ) (lacking refused other : Bool) →
         IsNews than inputs news lacking → IsCompaction (than ++ inputs) octets refused →
@@ -100,9 +99,9 @@ pub fn compaction_with_news()
         IsCompaction (than ++ inputs) octets refused → IsCompaction (than ++ others) again other → again ≢ octets }
 {}
 
-/// Parts of inputs, no two of which tell of one UID, and which together have the compaction of the whole. The text of a list is that
-/// of its blocks, cut by UID, one after another. The blocks of the parts' lists, sorted by UID, are those of the list of the whole;
-/// and what the compactions of the parts have, sorted by octets, is the compaction of the whole (our own rules).
+/// Parts of inputs that together have the compaction of the whole, and no two of which tell of one UID. The text of a list is that of
+/// its blocks, one for each UID, one after another. The blocks of the parts' lists, sorted by UID, are those of the list of the
+/// whole; and the items of the parts' compactions, sorted by bytes, are the compaction of the whole (our own rules).
 pub fn outputs_of_parts()
     ensures text { (inputs : List (List ℕ)) (wanted : Wanted) (window : Window) (blocks : List Block) (text : List ℕ) (refused : Bool)
         → IsOfHeard (AreBlocksWhere (Wants wanted) window) inputs blocks

@@ -1,15 +1,15 @@
-//! Messages in, what counts out: sources of messages, read one after another, of which all are heard.
+//! Messages in, what counts out: sources of messages are read one after another, and all of them are heard.
 //!
-//! Each source is cut into messages by itself, by `itip_message`: `part_messages` parts the octets that were read, for as many
-//! threads, and each cuts its part by `next_message` and reads each message by `read_message`. Where a message is too long to be
-//! held, `cut_message` finds its end. A refused message is not heard, and the others are. While sources are read, what is kept
-//! lies in shards by UID, and each hears the items of its UIDs on a thread of its own; then one state has all. What is kept of all
-//! is a batch, by canonical octets and each once, and is
-//! written as `itip_desk` writes a delta. There a refused message refuses all octets (`read_delta`); here it does not.
+//! Each source is cut into messages by itself, by `itip_message`: `part_messages` splits the bytes that were read among the threads,
+//! and each thread cuts its part with `next_message` and reads each message with `read_message`. Where a message is too long to be
+//! held, `cut_message` finds its end. A refused message is not heard; the others are. While sources are read, what is kept is split
+//! into shards by UID, and each shard hears the items of its UIDs on a thread of its own; then one state has all. What is kept of
+//! everything is a batch, sorted by canonical bytes and each item once, and is written as `itip_desk` writes a delta. There a refused
+//! message refuses all bytes (`read_delta`); here it does not.
 //!
-//! Only which items are told counts, and what is kept of what was kept is what is kept of all. So parts of the sources may be
-//! compacted apart, on any machine and in any order, and the results once more; and what some sources lack of others is a few
-//! items (`news`). To explain one to-do, the items that messages tell of it are followed while all are heard.
+//! Only the set of items that are told matters, and what is kept of what was kept is what is kept of all. So parts of the sources
+//! may be compacted apart, on any machine and in any order, and then their results; and what some sources lack of others is a few
+//! items (`news`). To explain one to-do, the items that messages tell of it are followed while all messages are heard.
 #![tactic(auto)]
 
 mod compaction;

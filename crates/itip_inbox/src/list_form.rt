@@ -18,10 +18,11 @@ use std::io::Write;
 
 /// A form in which the rows of a window are written.
 pub trait ListForm {
-    /// The octets of these rows of a window.
+    /// The bytes of these rows of a window.
     ghost octets: { Self → Window → List Row → List ℕ };
 
-    /// Writes the rows that are left, of which there are so many. They are made a UID at a time. After a fault a front was written.
+    /// Writes the `number` rows that are left, which are made a UID at a time. On an error, which is never [`StreamFault::Read`], a
+    /// prefix has been written.
     fn write<W: Write>(
         &self,
         alloc: Global,
@@ -58,7 +59,7 @@ impl ListForm for TextList {
     }
 }
 
-/// One HTML page, with the window and the day that is taken for today.
+/// One HTML page, with the window and the day that is taken as today.
 #[derive(Clone, Copy, Debug)]
 pub struct PageList {
     pub today: Day,

@@ -1,4 +1,4 @@
-//! What hears inputs.
+//! The inbox that hears inputs.
 ghost use Rattle.std.specs.Prelude.{◌≡◌, ◌≢◌, ◌++◌, ◌+◌, ◌<◌, ℕ, List, [], ◌∷◌, length, map, Option, IfOk, IfErr, OnOk, OnErr};
 ghost use Rattle.std.specs.Option.{option_copied};
 ghost use Rattle.itip_lines.specs.Reading.{text_limit};
@@ -21,29 +21,29 @@ use itip_todo::Uid;
 use std::alloc::{AllocError, Global};
 use std::thread::Threads;
 
-/// What is kept of the messages of some inputs, which were refused, and what they tell of one to-do, where more may come.
+/// What is kept of the messages of some inputs, which of them were refused, and what they tell of one to-do. More may come.
 #[derive(Drop)]
 pub(crate) struct OpenInbox {
     /// What is kept of the messages that were heard.
     pub(crate) state: Shards,
     /// The refused messages, in the order of the inputs and of their messages.
     pub(crate) refusals: Vec<RefusedMessage>,
-    /// The items of the UID that is followed, in the order of the inputs, of their messages and of `read_message`, each as often
-    /// as a message tells it; none where no UID is followed.
+    /// The items of the followed UID, in the order of the inputs, of their messages and of `read_message`, each as often as a
+    /// message tells it; none if no UID is followed.
     pub(crate) told: Vec<ToldItem>,
-    /// The place of the input that is heard, from 0: so many were read to their ends.
+    /// The place of the input being heard, from 0: the number of inputs that were read to their ends.
     pub(crate) source: usize,
-    /// How many messages of this input there were so far, refused ones too.
+    /// How many messages of this input were heard or refused so far.
     pub(crate) messages: u64,
-    /// The last of the inputs that were read to their ends, of which nothing is heard yet.
+    /// The last inputs that were read to their ends, of which nothing has been heard yet.
     pub(crate) waiting: Vec<Waiting>,
-    /// How many octets they have, and how many messages were heard or refused: `u64::MAX` where there are more.
+    /// How many bytes these have, and how many messages were heard or refused; each is its type's maximum if there are more.
     pub(crate) octets: usize,
     pub(crate) heard: u64,
 }
 
 impl OpenInbox {
-    /// An inbox of no message, before the first input, that hears on so many threads.
+    /// An inbox of no messages, before the first input, that hears on at most `threads` threads, or on one.
     pub(crate) fn empty(alloc: Global, threads: usize) -> Result<OpenInbox, AllocError>
         ensures none { IfOk result (λ inbox. (about : Option (List ℕ)) → HasGot about [] inbox) }
         ensures source { IfOk result (λ inbox. inbox.source ≡ 0) }
@@ -68,13 +68,13 @@ impl OpenInbox {
         !self.refusals.is_empty()
     }
 
-    /// Lets go of all that it has, what is kept on as many threads as it hears on.
+    /// Drops all that it has, each shard of what is kept on a thread of its own.
     pub(crate) fn let_go<R: Threads + Sync>(self, rt: &R) {
         let OpenInbox { state, .. } = self;
         state.let_go(rt);
     }
 
-    /// No message comes any more, and none waits.
+    /// Returns all that it has, once no more messages come and none wait.
     pub(crate) fn close(self) -> Result<Inbox, AllocError>
         ensures state { IfOk result (λ inbox. AreKept inbox.state self.state) }
         ensures refusals { IfOk result (λ inbox. inbox.refusals.items ≡ self.refusals.items) }
@@ -96,7 +96,7 @@ impl OpenInbox {
                 source,
             }),
             Err(refused) => {
-                // By calls: what is dropped in place is proved anew, field by field and case by case.
+                // By calls: for a drop in place the proof starts anew, field by field and case by case.
                 drop(refusals);
                 drop(told);
                 Err(refused)
@@ -104,7 +104,7 @@ impl OpenInbox {
         }
     }
 
-    /// The next input is heard from now on, and its messages are numbered from 1. After a fault nothing has changed.
+    /// Goes on to the next input, whose messages are numbered from 1. On an error nothing has changed.
     pub(crate) fn next_source(&mut self) -> Result<(), StreamFault>
         ensures source { OnOk result (self.new.source ≡ self.old.source + 1) }
         ensures messages { OnOk result (self.new.messages ≡ 0) }
@@ -125,7 +125,7 @@ impl OpenInbox {
         }
     }
 
-    /// The input has no more octets than these, of which none was heard. They wait to be heard with those of other inputs.
+    /// Lets an input wait to be heard with others. These are all of its bytes, and none of them has been heard.
     pub(crate) fn wait(&mut self, octets: Vec<u8>) -> Result<(), AllocError>
         ensures keeps { OnOk result ((about : Option (List ℕ)) (before : List Placed) → HasGot about before self.old →
             HasGot about (before ++ placed_from self.old.source 1 (messages_of octets.items)) self.new) }
@@ -140,8 +140,8 @@ impl OpenInbox {
         Ok(())
     }
 
-    /// Hears the inputs that wait, by at most so many threads, and follows the items of a UID, if there is one. After a fault a part of
-    /// their messages is heard.
+    /// Hears the inputs that wait, on at most `threads` threads, and follows the items of the UID `about`, if there is one. On an error
+    /// a part of their messages may have been heard.
     pub(crate) fn hear_waiting<R: Threads + Sync>(
         &mut self,
         rt: &R,
@@ -165,8 +165,8 @@ impl OpenInbox {
         Ok(())
     }
 
-    /// Hears all messages of octets, the next of the input, by at most so many threads, and follows the items of a UID, if there is
-    /// one. After a fault a part of them is heard.
+    /// Hears all messages of `octets`, the next bytes of the input, on at most `threads` threads, and follows the items of the UID
+    /// `about`, if there is one. On an error a part of them, or of those of inputs that waited, may have been heard.
     pub(crate) fn hear<R: Threads + Sync>(
         &mut self,
         rt: &R,
@@ -188,7 +188,7 @@ impl OpenInbox {
         Ok(())
     }
 
-    /// Hears messages, the next of the input, as [`OpenInbox::hear`] does, on one thread.
+    /// Hears the next messages of the input as [`OpenInbox::hear`] does, but reads them on one thread.
     pub(crate) fn hear_each<R: Threads + Sync>(
         &mut self,
         rt: &R,
@@ -210,7 +210,8 @@ impl OpenInbox {
         Ok(())
     }
 
-    /// Notes a message that has more octets than a message may have, the next of the input. After a fault its number may be counted.
+    /// Notes that the next message of the input is refused, as it has more bytes than a message may have. On an error a part of the
+    /// messages of inputs that waited may have been heard, and this one may have been counted.
     pub(crate) fn refuse_long<R: Threads + Sync>(
         &mut self,
         rt: &R,
@@ -237,7 +238,7 @@ impl OpenInbox {
         Ok(())
     }
 
-    /// Hears and notes what the next messages of the input tell, which are numbered from 1. After a fault a part of it is heard or noted.
+    /// Hears and notes what the next messages of the input tell, numbered from 1. On an error a part of it may have been heard or noted.
     fn take_next<R: Threads + Sync>(
         &mut self,
         rt: &R,
@@ -260,7 +261,7 @@ impl OpenInbox {
         Ok(())
     }
 
-    /// Hears and notes what messages tell beside what is kept. After a refusal (out of memory) a part of it is heard or noted.
+    /// Hears and notes what messages tell beside what is kept. If an allocation fails, a part of it may have been heard or noted.
     fn take<R: Threads + Sync>(&mut self, rt: &R, heard: Heard) -> Result<(), AllocError>
         ensures keeps { OnOk result ((about : Option (List ℕ)) (before more : List Placed) → KeepsMessages about before self.old →
             Tells about self.old.state more heard → KeepsMessages about (before ++ more) self.new) }

@@ -1,4 +1,4 @@
-//! Reading inputs to their ends, and no more of one at a time than a share.
+//! Reads inputs to their ends, a share of one at a time.
 ghost use Rattle.std.specs.Prelude.{◌≡◌, ◌≢◌, ◌++◌, ◌+◌, ℕ, List, false, length, map, IfOk, IfErr, OnOk, IfSome, IsTrue};
 ghost use Rattle.std.specs.Option.{option_copied};
 ghost use Rattle.itip_message.specs.Parting.{StaysParted};
@@ -19,25 +19,25 @@ use std::alloc::Global;
 use std::io::Read;
 use std::thread::Threads;
 
-// How many octets are read for each thread before messages are heard.
+// How many bytes are read for each thread before messages are heard.
 const SHARE: usize = 1_048_576;
 
-// How much one read may bring.
+// The most bytes of one read.
 const ROOM: usize = 65_536;
 
-/// How much was read, as the watch is told.
+/// How much has been read, as the watch is told.
 #[derive(Clone, Copy)]
 pub(crate) struct Progress {
     // How many sources were read to their ends.
     sources: usize,
-    // How many messages the lists of sources had that came before.
+    // How many messages the lists of sources before this one had.
     messages: u64,
-    // How many octets were read.
+    // How many bytes were read.
     octets: u64,
 }
 
 impl Progress {
-    /// Nothing was read.
+    /// Nothing has been read.
     pub(crate) fn none() -> Progress {
         Progress {
             sources: 0,
@@ -46,21 +46,21 @@ impl Progress {
         }
     }
 
-    /// Tells that so many octets more were read, and that of this list of sources so many messages were heard.
+    /// Tells the watch that `octets` more bytes were read, and that `heard` messages of this list of sources were heard or refused.
     fn tell<W: Watch>(&mut self, octets: usize, heard: u64, watch: &mut W) {
         self.octets = self.octets.saturating_add(octets as u64);
         watch.read(self.messages.saturating_add(heard), self.octets);
     }
 }
 
-/// Reads sources one after another, each to its end, and hears their messages. These are cut, read and heard by at most so many
-/// threads, a share of a source at a time: about a mebibyte for each thread, or two where a message is as long as one may be; or of
-/// several sources, where each has no more than a mebibyte. Of a longer message nothing is held but where its line is. Where a UID
-/// is named, the items that the messages tell of it are followed.
+/// Reads sources one after another, each to its end, and hears their messages. These are cut, read and heard on at most `threads`
+/// threads, a share of a source at a time: about a mebibyte for each thread, or two where a message is as long as one may be. A share
+/// may also be of several sources of at most a mebibyte each. Of a longer message at most 20 bytes are held between shares. If `about`
+/// names a UID, the items that the messages tell of it are followed.
 ///
-/// The octets of each source are cut into messages by themselves, as those of a delta are. A refused message is noted and not
-/// heard. A source is dropped at its end; once a read has failed, no other is read. A failed read is [`StreamFault::Read`], and
-/// so are too many messages.
+/// Each source is cut into messages by itself, as a delta is. A refused message is noted and not heard. A source is dropped at its
+/// end. The first failed read is returned as [`StreamFault::Read`], and so are too many messages; a failed allocation is returned as
+/// [`StreamFault::Memory`]. After an error no other source is read.
 pub fn read_sources<R: Read + Drop, W: Watch>(
     rt: &(impl Threads + Sync),
     alloc: Global,
@@ -82,7 +82,7 @@ pub fn read_sources<R: Read + Drop, W: Watch>(
     read_more(rt, alloc, sources, about, threads, &mut progress, watch)
 }
 
-/// Reads sources as [`read_sources`] does, after others of which so much was read. The watch is told of both as of one list.
+/// Reads sources as [`read_sources`] does, after others that `progress` counts. The watch is told of both as one list.
 pub(crate) fn read_more<R: Read + Drop, W: Watch>(
     rt: &(impl Threads + Sync),
     alloc: Global,
@@ -146,7 +146,7 @@ pub(crate) fn hear_sources<R: Read + Drop, W: Watch>(
     Ok(inbox)
 }
 
-/// Reads a source to its end, and hears its messages, or lets them wait. After a fault a part of them is heard.
+/// Reads a source to its end, and hears its messages or lets them wait. On an error a part of them may have been heard.
 fn read_source<R: Read, W: Watch>(
     inbox: &mut OpenInbox,
     rt: &(impl Threads + Sync),
@@ -180,8 +180,8 @@ fn read_source<R: Read, W: Watch>(
     Err(StreamFault::Read)
 }
 
-/// Hears all messages of what is held, where nothing follows. They may wait for those of other sources where they are all of the
-/// source and not many.
+/// Hears all messages of what is held, which nothing follows. If it is the whole source and not long, they may wait for those of
+/// other sources.
 fn hear_last(
     inbox: &mut OpenInbox,
     rt: &(impl Threads + Sync),
@@ -204,15 +204,15 @@ fn hear_last(
     hear_all(inbox, rt, alloc, &held, about, threads)
 }
 
-/// Whether what is held may wait, where nothing follows and so many messages of the source were heard: it is all of the source, and
-/// not many octets.
+/// Whether what is held may wait, if nothing follows it and `messages` messages of the source were heard: it is the whole source,
+/// and at most a mebibyte.
 fn may_wait(held: &Held, messages: u64) -> bool
     ensures { IsTrue result → (held.now.is_long ≡ false) × (messages ≡ 0) }
 {
     !held.is_long && messages == 0 && held.octets.len() <= SHARE
 }
 
-/// Lets a source wait that has no more octets than these, and hears all that wait once they are many.
+/// Lets a source of these bytes wait, and hears all that wait once they are a share for each thread.
 fn let_wait(
     inbox: &mut OpenInbox,
     rt: &(impl Threads + Sync),
@@ -235,12 +235,12 @@ fn let_wait(
     Ok(())
 }
 
-/// Whether so many octets are less than a share for each thread.
+/// Whether `octets` bytes are less than a share for each thread.
 fn is_less(octets: usize, threads: usize) -> bool {
     octets < SHARE.saturating_mul(threads)
 }
 
-/// Hears all messages of what is held, where nothing follows.
+/// Hears all messages of what is held, which nothing follows.
 fn hear_all(
     inbox: &mut OpenInbox,
     rt: &(impl Threads + Sync),
@@ -262,7 +262,7 @@ fn hear_all(
     inbox.hear(rt, alloc, held.octets.as_slice(), about, threads)
 }
 
-/// Hears all messages of what is held, as [`hear_all`] does, on one thread: the first may be too long.
+/// Hears all messages of what is held, as [`hear_all`] does, but reads them on one thread: the first may be too long.
 fn hear_long(
     inbox: &mut OpenInbox,
     rt: &(impl Threads + Sync),
@@ -290,7 +290,7 @@ fn hear_long(
     )
 }
 
-/// Hears the first messages of what is held, where more may follow, and holds what is left.
+/// Hears the first messages of what is held, which more may follow, and returns what is left to be held.
 fn hear_first(
     inbox: &mut OpenInbox,
     rt: &(impl Threads + Sync),
@@ -310,8 +310,8 @@ fn hear_first(
     }
 }
 
-/// Octets that others may follow, in two parts that are cut into messages apart, of which the second is held, a quarter or so; `None`
-/// where the first message is too long, or none is known to end there.
+/// Splits bytes that others may follow into two parts that are cut into messages apart. The second, about a quarter, is to be held.
+/// Returns `None` if the first message is too long, or none is known to end in the last quarter.
 fn part_late(octets: &[u8], is_long: bool) -> Option<(&[u8], &[u8])>
     ensures parts { IfSome result (λ parts. StaysParted octets.now parts.0.now parts.1.now) }
     ensures short { IfSome result (λ _. is_long ≡ false) }
@@ -322,7 +322,7 @@ fn part_late(octets: &[u8], is_long: bool) -> Option<(&[u8], &[u8])>
     part_messages(octets, octets.len() - octets.len() / 4)
 }
 
-/// Hears all messages of the first part of some octets, and holds the second part.
+/// Hears all messages of the first part of some bytes, and returns the second part to be held.
 fn hear_front(
     inbox: &mut OpenInbox,
     rt: &(impl Threads + Sync),
@@ -344,7 +344,7 @@ fn hear_front(
     })
 }
 
-/// Hears the first messages of what is held, as [`hear_first`] does, on one thread: few messages, of which one may be too long.
+/// Hears the first messages of what is held, as [`hear_first`] does, but reads them on one thread: the first may be too long.
 fn hear_begun(
     inbox: &mut OpenInbox,
     rt: &(impl Threads + Sync),
@@ -373,14 +373,14 @@ fn hear_begun(
     })
 }
 
-/// Whether the message that is left is too long, behind these texts: it was before and goes on, or it has come to be.
+/// Whether the message that is left after these texts is too long: it was too long before and goes on, or it has become so.
 fn is_left_long(was_long: bool, texts: &[&[u8]], left: &[u8]) -> bool
     ensures { result ≡ is_left_long was_long (map (λ text. text.now) texts.now) left.now }
 {
     (was_long && texts.is_empty()) || left.len() > MAX_OCTETS
 }
 
-/// Hears messages. Where the first is too long to be read, it is noted as refused, whatever stands for it.
+/// Hears messages. If the first is too long to be read, it is noted as refused, whatever text stands in for it.
 fn hear_texts(
     inbox: &mut OpenInbox,
     rt: &(impl Threads + Sync),
@@ -408,8 +408,8 @@ fn hear_texts(
     inbox.hear_each(rt, alloc, others, about, threads)
 }
 
-/// Reads until a share of so many octets is held, or twice what was: so a long message is gone through few times. Says whether
-/// the input is at its end, and tells of each read. After a fault a part was read.
+/// Reads until `share` bytes are held, or twice what was held if that is more: so a long message is gone through only a few times.
+/// Returns whether the input is at its end, and tells the watch of each read. On an error a part may have been read.
 fn fill<R: Read, W: Watch>(
     reader: &mut R,
     held: &mut Vec<u8>,

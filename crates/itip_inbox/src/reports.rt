@@ -24,11 +24,11 @@ use std::alloc::{AllocError, Global};
 use std::io::{Read, Write};
 use std::thread::Threads;
 
-/// Reads sources to their ends and writes the lines of a report over all their messages; or `refused 31` where the report tells
-/// of the rows of the window and more than 100,000 stand there. Says whether a message was refused, or the report.
+/// Reads sources to their ends and writes the lines of a report over all their messages; or `refused 31` if the report tells of the
+/// rows of the window and there are more than 100,000. Returns whether a message was refused, or the report.
 ///
-/// Refused messages are told to `watch`, in the order of the sources, before anything is written; and all sources are read
-/// before that. After a fault of reading nothing was written, after another fault a front of the output.
+/// Once all sources are read, and before anything is written, `watch` is told of the refused messages in the order of the sources. On
+/// [`StreamFault::Read`] nothing has been written; on another error a prefix of the output has been.
 pub fn report<R: Read + Drop, W: Write, S: Watch>(
     rt: &(impl Threads + Sync),
     alloc: Global,
@@ -52,7 +52,8 @@ pub fn report<R: Read + Drop, W: Write, S: Watch>(
     Ok(is_refused | is_over)
 }
 
-/// Writes a report over an inbox, or that there are too many rows, and says whether that was it. The rows are made a UID at a time.
+/// Writes a report over an inbox, or `refused 31` if there are too many rows, and returns whether there are. The rows are made a UID
+/// at a time.
 fn write_report<W: Write, S: Watch>(
     alloc: Global,
     inbox: &Inbox,
@@ -81,7 +82,7 @@ fn write_report<W: Write, S: Watch>(
     }
 }
 
-/// The rows that a report tells of: none where it tells of no rows.
+/// The rows that a report tells of, or none if it tells of no rows.
 fn report_rows(
     alloc: Global,
     state: &State,
@@ -111,7 +112,7 @@ fn report_text(
     ended_lines(alloc, lines.as_slice())
 }
 
-/// The text of lines, each with its end.
+/// The text of lines, each with LF after it.
 fn ended_lines(alloc: Global, lines: &[String]) -> Result<Vec<u8>, AllocError>
     ensures { IfOk result (λ text. text.items ≡ flat_map ended (map string_bytes lines.now)) }
 {

@@ -9,7 +9,7 @@ use itip_moment::Moment;
 use itip_view::RowId;
 use std::alloc::{AllocError, Global};
 
-/// What names a row beside its UID: a moment, or `opaque`; nothing names the one row of a to-do that doesn't recur.
+/// What names a row besides its UID: a moment, or `opaque`. Returns `None` for the one row of a to-do that doesn't recur.
 pub(crate) fn id_text(alloc: Global, id: &RowId) -> Result<Option<String>, AllocError>
     ensures { IfOk result (λ text. option_map string_bytes text ≡ row_name id.now) }
 {
@@ -20,7 +20,7 @@ pub(crate) fn id_text(alloc: Global, id: &RowId) -> Result<Option<String>, Alloc
     }
 }
 
-/// A moment as the list shows it, where there is one.
+/// A moment as the list shows it, if there is one.
 pub(crate) fn moment_text(
     alloc: Global,
     moment: &Option<Moment>,

@@ -1,4 +1,4 @@
-//! Messages that are written beside some inputs.
+//! Messages to send, given what some inputs tell.
 ghost use Rattle.std.specs.Prelude.{◌≡◌, ◌≢◌, ℕ, List, IfOk, IfErr, OnOk, OnErr, IsErrOf};
 ghost use Rattle.std.specs.Io.KnownBytes.{Appends, Keeps};
 ghost use Rattle.itip_streams.specs.Written.{AppendsFront};
@@ -24,18 +24,18 @@ pub enum Sent {
     Done {
         /// Whether a message of the sources was refused.
         is_refused: bool,
-        /// What RFC 5546 3.4 wants in such a message and isn't there, each once.
+        /// The properties that RFC 5546 3.4 wants in such a message and that it lacks, each once.
         lacking: Vec<PropertyName>,
     },
-    /// It can't be written, and nothing was. The cause is never that memory was refused.
+    /// It can't be written, and nothing was. The cause is never [`WritingError::NoMemory`].
     Undone(WritingError),
 }
 
-/// Reads sources to their ends and writes the message that is asked for beside what they tell, at this moment; or nothing where it
-/// can't be written.
+/// Reads sources to their ends and writes the message that `errand` asks for at the moment `at`, given what the sources tell; or
+/// nothing if it can't be written.
 ///
-/// Refused messages are told to `watch`, in the order of the sources, before anything is written; and all sources are read
-/// before that. After a fault of reading nothing was written, after another fault a front of the message.
+/// Once all sources are read, and before anything is written, `watch` is told of the refused messages in the order of the sources. On
+/// [`StreamFault::Read`] nothing has been written; on another error a prefix of the message has been.
 pub fn send<R: Read + Drop, W: Write, S: Watch>(
     rt: &(impl Threads + Sync),
     alloc: Global,
@@ -59,7 +59,7 @@ pub fn send<R: Read + Drop, W: Write, S: Watch>(
     }
 }
 
-/// Writes a message, and says what came of it. After a fault a front of it was written.
+/// Writes a message, and returns what came of it. On an error a prefix of it has been written.
 fn write_message<W: Write>(
     inbox: &Inbox,
     message: Message,
@@ -78,7 +78,7 @@ fn write_message<W: Write>(
     })
 }
 
-/// Why a message can't be written, where memory wasn't refused.
+/// Why a message can't be written, or [`StreamFault::Memory`] if an allocation failed.
 fn cause_of(error: WritingError) -> Result<WritingError, StreamFault>
     ensures same { IfOk result (λ cause. cause ≡ error) }
     ensures not_memory { IfOk result (λ cause. cause ≢ WritingError.NoMemory) }

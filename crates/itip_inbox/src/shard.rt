@@ -1,4 +1,4 @@
-//! What is kept of the UIDs of one number.
+//! What is kept of the UIDs of one shard.
 ghost use Rattle.std.specs.Prelude.{◌≡◌, ◌<◌, ◌++◌, [], false, nat_eq, OnOk};
 ghost use Rattle.itip_items.specs.KeyParts.{uid_of};
 ghost use Rattle.itip_state.specs.Kept.{AreKept};
@@ -8,11 +8,11 @@ use itip_state::{SharedItem, State};
 use itip_todo::Uid;
 use std::alloc::{AllocError, Global};
 
-/// What is kept of the UIDs of one number.
+/// What is kept of the UIDs whose number is that of this shard.
 #[derive(Drop)]
 pub(crate) struct Shard {
     pub(crate) state: State,
-    /// Whether memory was refused when it last heard. Then some of that is not heard.
+    /// Whether an allocation failed when it last heard. Then some of those items were not heard.
     pub(crate) is_refused: bool,
 }
 
@@ -27,7 +27,7 @@ impl Shard {
         }
     }
 
-    /// Hears those of some items whose UIDs have this number, where there are so many.
+    /// Hears the items whose UIDs are of shard `number` of `count`.
     pub(crate) fn hear(&mut self, number: usize, count: usize, items: &[SharedItem])
         requires { 0 < count }
         ensures hears { self.new.is_refused ≡ false → AreKept self.new.state (self.old.state ++ of_shard count number items.now) }
@@ -37,7 +37,8 @@ impl Shard {
     }
 }
 
-/// Hears those of some items whose UIDs have a number, one after another. After a refusal (out of memory) some of them are heard.
+/// Hears the items whose UIDs are of shard `number` of `count`, one after another. If an allocation fails, some of them may have been
+/// heard.
 fn hear_at(
     state: &mut State,
     number: usize,
@@ -57,7 +58,7 @@ fn hear_at(
     Ok(())
 }
 
-/// Whether the UID of an item has this number, where there are so many.
+/// Whether the UID of an item is of shard `number` of `count`.
 fn is_of(item: &SharedItem, number: usize, count: usize) -> bool
     requires { 0 < count }
     ensures { result ≡ nat_eq (shard_of count (uid_of item.now.key)) number }
@@ -65,7 +66,7 @@ fn is_of(item: &SharedItem, number: usize, count: usize) -> bool
     shard_of(item.key.uid(), count) == number
 }
 
-/// The number of the shard of a UID, where there are so many.
+/// The number of the shard of a UID, if there are `count` shards.
 pub(crate) fn shard_of(uid: &Uid, count: usize) -> usize
     requires { 0 < count }
     ensures number { result ≡ shard_of count uid.now }
@@ -77,7 +78,7 @@ pub(crate) fn shard_of(uid: &Uid, count: usize) -> usize
     (number_of(uid.as_str().as_bytes()) % count as u64) as usize
 }
 
-/// A number of some octets.
+/// A number made from some bytes, below 2^32.
 fn number_of(octets: &[u8]) -> u64
     ensures number { result ≡ number_of octets.now }
     ensures small { result < 4294967296 }

@@ -1,4 +1,4 @@
-//! What is kept, in shards by UID. All that the rules say of an item is about its UID, so each shard hears on a thread of its own.
+//! What is kept, split into shards by UID. What the rules say of an item is about its UID, so each shard hears on a thread of its own.
 ghost use Rattle.std.specs.Prelude.{◌≡◌, ◌↔◌, ◌<◌, ◌++◌, [], length, map, IfOk, OnOk, IfErr, IsTrue};
 ghost use Rattle.std.specs.List.{list_any};
 ghost use Rattle.std.specs.Thread.{IsSync};
@@ -13,10 +13,10 @@ use std::marker::Model;
 use std::thread::{Threads, join};
 use std::{slice, thread};
 
-// How few items are worth a thread.
+// The fewest items that are worth a thread.
 const LEAST: usize = 64;
 
-/// What is kept, in as many shards as there are threads. Contracts see it as the list of its items.
+/// The kept items, split into one shard per thread. Contracts see it as the list of its items.
 #[derive(Drop)]
 pub(crate) struct Shards {
     shards: Vec<Shard>,
@@ -41,7 +41,7 @@ impl Model for Shards {
 }
 
 impl Shards {
-    /// Nothing kept, in so many shards, or in one where there is none.
+    /// Keeps nothing yet, in `count` shards, or in one if `count` is 0.
     pub(crate) fn empty(alloc: Global, count: usize) -> Result<Shards, AllocError>
         ensures { IfOk result (λ shards. shards ≡ []) }
     {
@@ -53,7 +53,7 @@ impl Shards {
         Ok(Shards { shards })
     }
 
-    /// Those of these items that are news beside what is kept.
+    /// The items that would change what is kept.
     pub(crate) fn news<'a>(
         &self,
         alloc: Global,
@@ -80,7 +80,7 @@ impl Shards {
         Ok(news.is_empty())
     }
 
-    /// Hears items, each shard those of its UIDs, and many on threads of their own. After a refusal (out of memory) some of them are heard.
+    /// Hears items, each shard those of its UIDs, and many items on several threads. If an allocation fails, some may have been heard.
     pub(crate) fn hear<R: Threads + Sync>(
         &mut self,
         rt: &R,
@@ -101,14 +101,14 @@ impl Shards {
         Ok(())
     }
 
-    /// The items, by canonical octets, each once. Each shard is sorted on a thread of its own.
+    /// The items, sorted by canonical bytes, each once. Each shard is sorted on a thread of its own.
     pub(crate) fn by_octets<R: Threads + Sync>(&self, rt: &R) -> Result<Vec<SharedItem>, AllocError>
         ensures { IfOk result (λ items. IsItemsOf items.items self.now) }
     {
         sorted(rt, self.shards.as_slice())
     }
 
-    /// Lets go of items that were heard, many on as many threads as there are shards.
+    /// Drops items that were heard, many of them on up to as many threads as there are shards.
     pub(crate) fn let_go_of<R: Threads + Sync>(&self, rt: &R, items: Vec<SharedItem>) {
         let count = (items.len() / LEAST).min(self.shards.len());
         if count > 1 {
@@ -118,7 +118,7 @@ impl Shards {
         }
     }
 
-    /// Lets go of what is kept, each shard on a thread of its own.
+    /// Drops what is kept, each shard on a thread of its own.
     pub(crate) fn let_go<R: Threads + Sync>(self, rt: &R) {
         let Shards { shards } = self;
         let _ = thread::map_vec(rt, shards, &|shard: Shard| drop(shard));
@@ -143,7 +143,7 @@ impl Shards {
     }
 }
 
-/// Items in so many lists of about one length.
+/// Splits items into at most `count` lists of about the same length.
 fn in_parts(items: Vec<SharedItem>, count: usize) -> Result<Vec<Vec<SharedItem>>, AllocError>
     requires { 0 < count }
 {
@@ -160,14 +160,15 @@ fn in_parts(items: Vec<SharedItem>, count: usize) -> Result<Vec<Vec<SharedItem>>
     Ok(parts)
 }
 
-/// Whether memory was refused to one of these shards.
+/// Whether an allocation failed in one of these shards.
 fn is_one_refused(shards: &[Shard]) -> bool
     ensures { result ≡ list_any (λ shard. shard.is_refused) shards.now }
 {
     shards.iter().any(|shard| shard.is_refused)
 }
 
-/// The items of some shards, by canonical octets, each once. Each is sorted on a thread of its own, and then two and two.
+/// The items of some shards, sorted by canonical bytes, each once. Each shard is sorted on a thread of its own, and the results are
+/// merged in pairs.
 #[cycle(sorts)]
 fn sorted<R: Threads + Sync>(rt: &R, shards: &[Shard]) -> Result<Vec<SharedItem>, AllocError>
     requires { 0 < length shards.now }

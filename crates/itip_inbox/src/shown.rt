@@ -15,20 +15,21 @@ use itip_streams::{StreamFault, read_within, write_output};
 use std::alloc::{AllocError, Global};
 use std::io::{Read, Write};
 
-/// The most octets of a message. A text of one more is refused for its length.
+/// The most bytes that a message may have. A text of more is refused for its length.
 pub const MAX_OCTETS: usize = 1_048_576;
 
-/// Why a text of more than [`MAX_OCTETS`] is refused.
+/// Why a text of more than [`MAX_OCTETS`] bytes is refused.
 pub const TOO_LONG: LineRefusal = LineRefusal {
     cause: LineCause::TooLong,
     line: None,
 };
 
-/// Reads one message and writes `items N` and the canonical octets of its N items, by these octets and each once, or
-/// `refused N` where the text is no message; one of more than 1,048,576 octets is `refused 1`. Says whether it was refused.
+/// Reads one message and writes `items N` and the canonical bytes of its N items, sorted by these bytes, each once; or `refused N` if
+/// the text is no message. A text of more than 1,048,576 bytes is `refused 1`. Returns whether it was refused.
 ///
-/// A refusal is told to `watch`, as that of message 1 of source 0, once it is written. After a fault of reading nothing was written, after
-/// another fault a front of the output. One read more than [`MAX_READS`](itip_streams::MAX_READS) is a fault of reading.
+/// Once a refusal is written, `watch` is told of it, as that of message 1 of source 0. On [`StreamFault::Read`], which is also returned
+/// when [`MAX_READS`](itip_streams::MAX_READS) reads are not enough, nothing has been written; on another error a prefix of the output
+/// has been.
 pub fn check<R: Read, W: Write, S: Watch>(
     alloc: Global,
     reader: &mut R,

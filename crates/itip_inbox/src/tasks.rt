@@ -18,12 +18,12 @@ use std::alloc::Global;
 use std::io::{Read, Write};
 use std::thread::Threads;
 
-/// Reads sources to their ends and writes the task list of all their messages in a window, of the rows that are wanted, in a form; or
-/// `refused 31` where more than 100,000 of these stand there. Says whether a message was refused, or the list.
+/// Reads sources to their ends and writes, in the form `form`, the task list of all their messages: the rows of a window that are
+/// wanted; or `refused 31` if these are more than 100,000. Returns whether a message was refused, or the list.
 ///
-/// Refused messages are told to `watch`, in the order of the sources, before anything is written; and all sources are read
-/// before that, and the rows counted. They are made and written a UID at a time. After a fault of reading nothing was written, after
-/// another fault a front of the output.
+/// Once all sources are read, and before anything is written, `watch` is told of the refused messages in the order of the sources,
+/// and the rows are counted. They are made and written a UID at a time. On [`StreamFault::Read`] nothing has been written; on another
+/// error a prefix of the output has been.
 pub fn list<R: Read + Drop, W: Write, S: Watch, F: ListForm>(
     rt: &(impl Threads + Sync),
     alloc: Global,
@@ -49,7 +49,7 @@ pub fn list<R: Read + Drop, W: Write, S: Watch, F: ListForm>(
     Ok(is_refused | is_over)
 }
 
-/// Writes the list of an inbox, or that there are too many rows, and says whether that was it.
+/// Writes the list of an inbox, or `refused 31` if there are too many rows, and returns whether there are.
 fn write_list<W: Write, S: Watch, F: ListForm>(
     alloc: Global,
     inbox: &Inbox,

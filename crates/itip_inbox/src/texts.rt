@@ -1,4 +1,4 @@
-//! Reading many messages at once, and what they tell beside what is kept.
+//! Reads many messages at once, for what they tell beside what is kept.
 ghost use Rattle.std.specs.Prelude.{◌≡◌, ◌≢◌, ◌+◌, ◌++◌, ◌∷◌, ℕ, List, Option, [], map, filter, IfOk, IfErr, OnOk};
 ghost use Rattle.std.specs.Option.{option_copied};
 ghost use Rattle.std.specs.Thread.{IsSync};
@@ -24,23 +24,23 @@ use std::alloc::{AllocError, Global};
 use std::mem;
 use std::thread::{Threads, join};
 
-/// How few octets are worth a thread.
+/// The fewest bytes that are worth a thread.
 pub(crate) const LEAST: usize = 16_384;
 
 /// What messages tell beside what is kept.
 #[derive(Drop)]
 pub(crate) struct Heard {
-    /// How many they are, refused ones too.
+    /// How many messages there are, refused ones included.
     pub(crate) count: u64,
-    /// Those of their items that are news.
+    /// The items of theirs that are news.
     pub(crate) news: Vec<SharedItem>,
     /// The refused messages, in their order.
     pub(crate) refusals: Vec<RefusedMessage>,
-    /// Their items of the UID that is followed, in their order.
+    /// Their items of the followed UID, in their order.
     pub(crate) told: Vec<ToldItem>,
 }
 
-/// What all messages of octets tell, numbered from 1 and read by at most so many threads.
+/// What all messages of `octets` tell, numbered from 1 and read on at most `threads` threads.
 pub(crate) fn read_share(
     rt: &(impl Threads + Sync),
     alloc: Global,
@@ -57,7 +57,7 @@ pub(crate) fn read_share(
     read_parts(rt, alloc, kept, about, source, octets, threads)
 }
 
-/// The same by so many threads, or by one: the octets are parted between messages, and each thread reads a part.
+/// Like [`read_share`], whatever the length: the bytes are split between messages, and each thread reads a part.
 #[cycle(parts)]
 fn read_parts<R: Threads + Sync>(
     rt: &R,
@@ -100,7 +100,7 @@ fn read_parts<R: Threads + Sync>(
     Ok(heard)
 }
 
-/// What all messages of octets tell, numbered from 1 and read one after another.
+/// What all messages of `octets` tell, numbered from 1 and read one after another.
 pub(crate) fn read_octets(
     alloc: Global,
     kept: &Shards,
@@ -140,7 +140,7 @@ pub(crate) fn read_texts(
 }
 
 impl Heard {
-    /// What no message tells.
+    /// What no messages tell.
     pub(crate) fn nothing(alloc: Global) -> Heard
         ensures { (about : Option (List ℕ)) (kept : List Item) → Tells about kept [] result }
     {
@@ -152,7 +152,7 @@ impl Heard {
         }
     }
 
-    /// Adds what messages tell that come behind. After a fault a part of it is added.
+    /// Adds what the messages after these tell. On an error a part of it may have been added.
     pub(crate) fn append(&mut self, others: Heard) -> Result<(), StreamFault>
         ensures tells { OnOk result ((about : Option (List ℕ)) (kept : List Item) (before after : List Placed) →
             Tells about kept before self.old → Tells about kept after others → Tells about kept (before ++ after) self.new) }
@@ -172,7 +172,8 @@ impl Heard {
         Ok(())
     }
 
-    /// So many messages of their source come before these. After a fault some have their new numbers.
+    /// Numbers the messages anew, after `count` others of their source. On an error some have their new numbers, and what they tell of
+    /// the followed UID may be gone.
     pub(crate) fn move_behind(&mut self, alloc: Global, count: u64) -> Result<(), StreamFault>
         ensures tells { OnOk result ((about : Option (List ℕ)) (kept : List Item) (source first : ℕ) (texts : List (List ℕ)) →
             Tells about kept (placed_from source first texts) self.old →
@@ -188,8 +189,8 @@ impl Heard {
         Ok(())
     }
 
-    /// Reads one message of a source more, with the next number, and adds what it tells, or that it is refused. After a fault a part
-    /// of that is added.
+    /// Reads one more message of a source, with the next number, and adds what it tells, or its refusal. On an error a part of that may
+    /// have been added.
     fn add(
         &mut self,
         alloc: Global,
@@ -225,7 +226,7 @@ impl Heard {
     }
 }
 
-/// Refused messages before which so many others come.
+/// Refused messages, numbered anew after `count` others.
 fn refusals_behind(
     alloc: Global,
     refusals: &[RefusedMessage],
@@ -246,7 +247,7 @@ fn refusals_behind(
     Ok(later)
 }
 
-/// Told items before whose messages so many others come.
+/// Told items, their messages numbered anew after `count` others.
 fn told_behind(alloc: Global, told: Vec<ToldItem>, count: u64) -> Result<Vec<ToldItem>, StreamFault>
     ensures later { IfOk result (λ later. later.items ≡ map (later_told count) told.items) }
     ensures fault { IfErr result (λ fault. fault ≢ StreamFault.Write) }
@@ -263,8 +264,8 @@ fn told_behind(alloc: Global, told: Vec<ToldItem>, count: u64) -> Result<Vec<Tol
     Ok(later)
 }
 
-/// Notes copies of the items of the UID that is followed, if one is, with the place of the message that tells them. After a refusal
-/// (out of memory) a part of them is noted.
+/// Notes copies of the items of the followed UID, if there is one, with the place of the message that tells them. If an allocation
+/// fails, a part of them has been noted.
 fn note(
     told: &mut Vec<ToldItem>,
     about: Option<&Uid>,
@@ -304,7 +305,7 @@ fn is_about(item: &Item, uid: &Uid) -> bool
     *item.key.uid() == *uid
 }
 
-/// Adds copies of those of the items that are news beside what is kept. After a refusal (out of memory) a part of them is added.
+/// Adds copies of the items that are news to what is kept. If an allocation fails, a part of them may have been added.
 fn add_news(
     news: &mut Vec<SharedItem>,
     alloc: Global,
@@ -319,7 +320,7 @@ fn add_news(
     add_copies(news, alloc, new.as_slice())
 }
 
-// What is kept are copies, which have no spare room. What is made while a text is read has, and lies among what is let go.
+// Copies are kept because they have no spare capacity. What is made while a text is read has some, and lies among what is freed.
 fn add_copies(
     copies: &mut Vec<SharedItem>,
     alloc: Global,

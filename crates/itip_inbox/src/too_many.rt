@@ -1,4 +1,4 @@
-//! What is written where there are too many rows.
+//! What is written if there are too many rows.
 ghost use Rattle.std.specs.Prelude.{◌≢◌, OnOk, OnErr, IfErr};
 ghost use Rattle.std.specs.Io.KnownBytes.{Appends};
 ghost use Rattle.itip_desk.specs.Refusals.{refused_text};
@@ -13,8 +13,8 @@ use itip_view::MostRows;
 use std::alloc::Global;
 use std::io::Write;
 
-/// Writes `refused 31`, once the watch is told which to-do has the most rows, where no message was refused. After a fault a front was
-/// written.
+/// Writes `refused 31`. If no message was refused, the watch is told before that which to-do has the most rows. On an error a prefix
+/// has been written.
 pub(crate) fn refuse_rows<W: Write, S: Watch>(
     alloc: Global,
     inbox: &Inbox,

@@ -1,4 +1,4 @@
-//! Sources that were read to their ends and are heard together with others, so that many small ones are worth several threads.
+//! Sources that were read to their ends and are heard together, so that many small ones are worth several threads.
 ghost use Rattle.std.specs.Prelude.{◌≢◌, IfOk, IfErr};
 ghost use Rattle.std.specs.Option.{option_copied};
 ghost use Rattle.std.specs.Thread.{IsSync};
@@ -16,11 +16,11 @@ use std::thread::{Threads, join};
 pub(crate) struct Waiting {
     /// Its place, from 0.
     pub(crate) source: usize,
-    /// All that it gave.
+    /// All of its bytes.
     pub(crate) octets: Vec<u8>,
 }
 
-/// What the messages of some sources tell, read by so many threads, or by one: each reads some of the sources.
+/// What the messages of some sources tell, read on `threads` threads, or on one if that is 0: each reads some of the sources.
 #[cycle(waits)]
 pub(crate) fn read_waiting<R: Threads + Sync>(
     rt: &R,
@@ -55,7 +55,7 @@ pub(crate) fn read_waiting<R: Threads + Sync>(
     Ok(heard)
 }
 
-/// The same, one source after another.
+/// Like [`read_waiting`], one source after another.
 fn read_in_turn(
     alloc: Global,
     kept: &Shards,

@@ -1,15 +1,15 @@
-//! Who is told how far the reading is, and what was refused.
+//! Who is told how far reading has come, and what was refused.
 use crate::refused::RefusedMessage;
 use itip_view::MostRows;
 
-/// What is told of sources beside the output. Nothing that is read or written depends on it.
+/// What is told of sources besides the output. Nothing that is read or written depends on it.
 ///
-/// Where two lists of sources are read, as for [`news`](crate::news), the places of the second go on after those of the first.
+/// If two lists of sources are read, as for [`news`](crate::news), the places of the second list follow those of the first.
 pub trait Watch {
-    /// The source of this place, from 0, is read from now on.
+    /// The source at this place, counted from 0, is read from now on.
     fn opens(&mut self, source: usize);
 
-    /// How many messages were heard or refused so far, and how many octets were read, of all sources.
+    /// How many messages were heard or refused so far, and how many bytes were read, of all sources.
     fn read(&mut self, messages: u64, octets: u64);
 
     /// This message was refused.

@@ -9,7 +9,7 @@ use Rattle.itip_items.specs.declared.kind.Method.{Method}
 use Rattle.itip_items.specs.declared.error.ItemError.{ItemError}
 use Rattle.itip_items.specs.declared.error.ItemError.TheVariants as error
 
--- what these to-dos give, which stand in a message with all of these
+-- what these to-dos give in a message with all of these
 abbrev pub drafts_among : Method → List Parts → List Parts → List ItemDraft
 drafts_among m all rest = flat_map (λ parts. drafts_of (kind_of m parts) (effective_sequence m all parts) parts) rest
 

@@ -1,10 +1,10 @@
--- The canonical octets of a to-do, put together of their parts.
-use Rattle.std.proofs.Common.{◌≡◌, ◌∙◌, sym, ap, refl, subst, ℕ, ◌+◌, ◌<◌, ◌≤◌, List, [], ◌∷◌, ◌++◌, length, length-append, append_assoc}
+-- The canonical octets of a to-do, put together from their parts.
+use Rattle.std.proofs.Common.{◌≡◌, ◌∙◌, sym, ap, subst, ℕ, ◌+◌, ◌<◌, ◌≤◌, List, [], ◌∷◌, ◌++◌, length, length-append, append_assoc}
 use Rattle.std.proofs.Common.{append-nil, arith}
 use Rattle.std.specs.Prelude.{codes}
 use Rattle.itip_todo.specs.Parts.{Parts}
 use Rattle.itip_todo.specs.UpTo.{AppendsEach, AppendsUpTo}
-use Rattle.itip_todo.specs.Written.{Content, contents_octets, content_octets, parts_contents, todo_contents, front_contents, rest_contents}
+use Rattle.itip_todo.specs.Written.{Content, contents_octets, parts_contents, todo_contents, front_contents, rest_contents}
 use Rattle.itip_todo.proofs.Appending.{appends_all, each_behind, then_up_to, front_and_rest}
 use Rattle.itip_todo.proofs.Contents.{contents_octets-append}
 use Rattle.itip_items.specs.Items.{bare, canonical_contents, canonical_octets, opening_contents, closing_contents, front_octets}
@@ -19,7 +19,7 @@ canonical_lines k parts =
     ap (λ (cs : List Content). opening_contents k ++ (bare (codes "BEGIN") (codes "VTODO") ∷ cs))
     (sym (append_assoc (parts_contents parts) (bare (codes "END") (codes "VTODO") ∷ []) end_calendar))
 
--- the lines up to ORGANIZER, and those behind them
+-- the lines up to ORGANIZER, and those after them
 front_lines : (k : Kind) (parts : Parts) → canonical_contents k parts ≡ (opening_contents k ++ front_contents parts) ++
     closing_contents parts
 front_lines k parts =
@@ -28,7 +28,7 @@ front_lines k parts =
     ∙ ap (λ (cs : List Content). opening_contents k ++ cs) (append_assoc (front_contents parts) (rest_contents parts) end_calendar)
     ∙ sym (append_assoc (opening_contents k) (front_contents parts) (closing_contents parts))
 
--- a line behind lines that are written as far as a limit allows
+-- a line after lines that are written as far as a limit allows
 pub end_up_to : (limit : ℕ) (cs : List Content) (old mid new : List ℕ) → AppendsUpTo limit cs old mid →
     new ≡ mid ++ contents_octets end_calendar → AppendsUpTo limit (cs ++ end_calendar) old new
 end_up_to limit cs old mid new written end =
@@ -51,7 +51,7 @@ front_is k parts opening front p q =
     q ∙ ap (λ (o : List ℕ). o ++ contents_octets (front_contents parts)) p ∙
     sym (contents_octets-append (opening_contents k) (front_contents parts))
 
--- a front, and lines behind it that are written as far as there is room: together they are written as far as the limit allows
+-- a front, and lines after it that are written as far as there is room: together they are written as far as the limit allows
 behind_front : (limit room : ℕ) (cs : List Content) (front own : List ℕ) → room + length front ≡ limit → AppendsUpTo room cs [] own →
     AppendsUpTo limit cs front (front ++ own)
 behind_front limit room cs front own sum written =

@@ -96,7 +96,7 @@ sequence_back seq eff h =
       | false ↦ λ e. back_where_equal seq eff e h
     ] refl
 
--- the effective sequence of an instance that stands alone with its canonical X-DESK-BASE
+-- the effective sequence of an instance that is alone with its canonical X-DESK-BASE
 alone_sequence : (m : Method) (p : Parts) (eff : ℕ) → p.seq ≤ eff → is_series m (with_base p (canonical_base p.seq eff)) ≡ false
     → effective_sequence m (with_base p (canonical_base p.seq eff) ∷ []) (with_base p (canonical_base p.seq eff)) ≡ eff
 alone_sequence m p eff h other =

@@ -1,5 +1,5 @@
 -- Whether two keys are one can be told.
-use Rattle.std.proofs.Common.{◌≡◌, ℕ, List, arith, refl, sym, ◌∙◌, ap, ◌⊎◌, inl, inr}
+use Rattle.std.proofs.Common.{◌≡◌, ℕ, List, refl, sym, ◌∙◌, ap, ◌⊎◌, inl, inr}
 use Rattle.std.specs.Prelude.{Option, Some, None, unwrap_or, cond, nat_eq}
 use Rattle.std.specs.Cmp.{IsTotalOrder}
 use Rattle.std.specs.declared.cmp.Ordering.{Ordering}

@@ -30,28 +30,28 @@ pub record GivesItems (given : List ItemDraft) (items : List Item) : Type 0 wher
 pub record IsOver (given : List ItemDraft) : Type 0 where
   pub over : Any (λ draft. ¬ IsWithinLimits draft) given
 
--- of an error: nothing where an allocation failed, and otherwise P
+-- if the error is `TooLarge`, P holds; of a failed allocation nothing is said
 abbrev pub IfLarge : ItemError → Type 0 → Type 0
 IfLarge item_error.NoMemory P = Unit {0}
 IfLarge item_error.TooLarge P = P
 
--- what each of these to-dos gives, which stand in a message with all of these
+-- what each of the to-dos `rest` gives in a message with the to-dos `all`
 abbrev pub drafts_each : Method → List Parts → List Parts → List (List ItemDraft)
 drafts_each m all rest = map (λ parts. drafts_of (kind_of m parts) (effective_sequence m all parts) parts) rest
 
--- of these drafts, each to-do's apart, those of the to-do `todo` are the first with a form that is too large; the first
+-- of these drafts, grouped by to-do, those of the to-do `todo` are the first with a form that is too large; the first
 -- to-do has the number `number`
 abbrev pub FirstOver : ℕ → List (List ItemDraft) → ℕ → Type 0
 FirstOver number [] todo = ⊥
 FirstOver number (given ∷ others) todo = ((todo ≡ number) × IsOver given) ⊎
     (AllByRecursion IsWithinLimits given × FirstOver (number + 1) others todo)
 
--- of an error: nothing where an allocation failed, and otherwise P of the to-do's number
+-- if the error is `TooLarge`, P holds of the to-do's number; of a failed allocation nothing is said
 abbrev pub IfTooLarge : FormError → (ℕ → Type 0) → Type 0
 IfTooLarge error.NoMemory P = Unit {0}
 IfTooLarge (error.TooLarge todo) P = P todo
 
--- the error of an item, as that of the items of a message with this number of its to-do
+-- the error of an item as that of its message, with the number of its to-do
 abbrev pub error_of_todo : ItemError → ℕ → FormError
 error_of_todo item_error.NoMemory todo = error.NoMemory
 error_of_todo item_error.TooLarge todo = error.TooLarge todo
@@ -60,7 +60,7 @@ error_of_todo item_error.TooLarge todo = error.TooLarge todo
 abbrev pub Gives : ItemDraft → Item → Type 0
 Gives draft item = IsItemOf draft item × IsWithinLimits draft
 
--- the items of drafts stand behind those that were there
+-- the items of the drafts follow those that were there
 pub record Adds (given : List ItemDraft) (old new : List Item) : Type 0 where
   pub added : List Item
   pub whole : new ≡ old ++ added

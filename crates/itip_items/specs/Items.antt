@@ -21,7 +21,7 @@ use Rattle.itip_items.specs.declared.kind.Kind.TheVariants as kind
 use Rattle.itip_items.specs.declared.kind.Method.{Method}
 use Rattle.itip_items.specs.declared.kind.Method.TheVariants as method
 
--- the most octets and lines of an item's canonical form (our own limits)
+-- the maximum numbers of octets and of lines in an item's canonical form (our own limits)
 abbrev pub canonical_octets_limit : ℕ
 canonical_octets_limit = 262144
 
@@ -35,7 +35,7 @@ method_text method.Cancel = codes "CANCEL"
 method_text method.Reply = codes "REPLY"
 method_text method.Refresh = codes "REFRESH"
 
--- the method of this name in upper case
+-- the method with this name in upper case
 abbrev pub method_named : List ℕ → Option Method
 method_named name =
     cond (same_text name (codes "REQUEST")) (Some method.Request)
@@ -76,11 +76,11 @@ opening_contents k =
 abbrev pub front_octets : Kind → Parts → List ℕ
 front_octets k parts = contents_octets (opening_contents k ++ front_contents parts)
 
--- what is shared of them, where something is
+-- the front that is shared, if any
 abbrev pub IsFrontOf : Kind → Parts → Option (List ℕ) → Type 0
 IsFrontOf k parts front = IfSome front (λ octets. octets ≡ front_octets k parts)
 
--- the lines behind them
+-- the lines after those of the front
 abbrev pub closing_contents : Parts → List Content
 closing_contents parts = rest_contents parts ++ bare (codes "END") (codes "VCALENDAR") ∷ []
 
@@ -88,7 +88,7 @@ abbrev pub one_if : Bool → ℕ
 one_if true = 1
 one_if false = 0
 
--- an item as data: what it speaks of, its kind, its effective sequence, its to-do in canonical form
+-- an item as data: what it speaks of, its kind, its effective sequence, and its to-do in canonical form
 pub record ItemDraft : Type 0 where
   pub key : Key
   pub kind : Kind
@@ -102,7 +102,7 @@ kind_of method.Cancel parts = cond (removes parts) kind.Remove kind.Cancel
 kind_of method.Reply parts = kind.Reply
 kind_of method.Refresh parts = kind.Refresh
 
--- the kinds that speak of the to-do as a whole, of an instance, or of it and all after it, named by RECURRENCE-ID
+-- the kinds that speak of the to-do as a whole, of an instance, or of it and all after it, as RECURRENCE-ID says
 abbrev pub is_task : Kind → Bool
 is_task kind.Request = true
 is_task kind.Add = false
@@ -111,26 +111,26 @@ is_task kind.Cancel = true
 is_task kind.Reply = false
 is_task kind.Refresh = false
 
--- a series component: one without RECURRENCE-ID of a REQUEST, or of a CANCEL that removes no attendee
+-- a series component: one without RECURRENCE-ID in a REQUEST, or in a CANCEL that removes no attendee
 abbrev pub is_series : Method → Parts → Bool
 is_series m parts = is_none parts.rid && is_task (kind_of m parts)
 
--- the greatest SEQUENCE of the series components of a UID, 0 where there is none
+-- the greatest SEQUENCE of the series components of a UID, 0 if there is none
 abbrev pub series_sequence : Method → List ℕ → List Parts → ℕ
 series_sequence m uid [] = 0
 series_sequence m uid (parts ∷ all) =
     max (cond (is_series m parts && pointwise nat_eq parts.uid uid) parts.seq 0) (series_sequence m uid all)
 
--- the greatest of a to-do's SEQUENCE, its X-DESK-BASE, and this
+-- the greatest of a to-do's SEQUENCE, its X-DESK-BASE, and `above`
 abbrev pub raised : Parts → ℕ → ℕ
 raised parts above = max parts.seq (max (unwrap_or parts.base 0) above)
 
 -- the effective sequence of an instance or range item (our own rule): the greatest of its own SEQUENCE, its X-DESK-BASE
--- and those of the series components of its UID beside it
+-- and those of the series components of its UID in the message
 abbrev pub effective_sequence : Method → List Parts → Parts → ℕ
 effective_sequence m all parts = raised parts (series_sequence m parts.uid all)
 
--- X-DESK-BASE in canonical form: the effective sequence, where it exceeds the own one
+-- X-DESK-BASE in canonical form: the effective sequence, if it exceeds the own one
 abbrev pub canonical_base : ℕ → ℕ → Option ℕ
 canonical_base own eff = cond (nat_lt own eff) (Some eff) None
 
@@ -140,16 +140,16 @@ with_base parts base = record parts { base = base }
 abbrev pub series_draft : Kind → Parts → ItemDraft
 series_draft k parts = record { key = key.Series parts.uid; kind = k; eff = parts.seq; parts = with_base parts None }
 
--- of this key, which is of an instance, or of it and all after it
+-- the draft of this key, which is that of an instance, or of it and all after it
 abbrev pub instance_draft : Kind → ℕ → Key → Parts → ItemDraft
 instance_draft k eff key parts = record { key = key; kind = k; eff = eff; parts = with_base parts (canonical_base parts.seq eff) }
 
--- an instance, or it and all after it
+-- the key of an instance, or of it and all after it
 abbrev pub instance_key : Bool → List ℕ → Moment → Key
 instance_key true uid id = key.Range uid id
 instance_key false uid id = key.Instance uid id
 
--- what an answer or a refresh keeps of its to-do: few properties, beside these attendees (our own rule)
+-- what the item of an attendee keeps of its to-do: few properties, beside these attendees (our own rule)
 abbrev pub kept_with : List Property → Parts → Parts
 kept_with attendees parts = record {
   uid = parts.uid;
@@ -172,11 +172,11 @@ kept_with attendees parts = record {
   others = [];
 }
 
--- its attendee is the one that it is of
+-- the same with the one attendee of the item
 abbrev pub only_of : Property → Parts → Parts
 only_of attendee parts = kept_with (attendee ∷ []) parts
 
--- an attendee's wish for the newest revision, and no answer
+-- an item of this kind is an attendee's wish for the newest revision, and not an answer
 abbrev pub refreshes : Kind → Bool
 refreshes kind.Request = false
 refreshes kind.Add = false
@@ -185,7 +185,7 @@ refreshes kind.Cancel = false
 refreshes kind.Reply = false
 refreshes kind.Refresh = true
 
--- the key of what an attendee answers, or wants
+-- the key of an attendee's answer or refresh; a removal has that of the answer
 abbrev pub attendee_key_of : Kind → Parts → Property → Key
 attendee_key_of k parts attendee =
     cond (refreshes k) (key.Refresh parts.uid parts.rid (attendee_key attendee.value))
@@ -195,17 +195,17 @@ abbrev pub attendee_draft : Kind → Parts → Property → ItemDraft
 attendee_draft k parts attendee =
     record { key = attendee_key_of k parts attendee; kind = k; eff = parts.seq; parts = only_of attendee parts }
 
--- of the series, or of the instance that RECURRENCE-ID names, or of it and all after it
+-- the draft of the series, or of the instance that RECURRENCE-ID names, or of it and all after it
 abbrev pub task_draft : Kind → ℕ → Option Moment → Parts → ItemDraft
 task_draft k eff None parts = series_draft k parts
 task_draft k eff (Some id) parts = instance_draft k eff (instance_key parts.range parts.uid id) parts
 
--- of the instance that DTSTART names
+-- the draft of the instance that DTSTART names
 abbrev pub add_drafts : ℕ → Option Moment → Parts → List ItemDraft
 add_drafts eff None parts = []
 add_drafts eff (Some id) parts = instance_draft kind.Add eff (key.Instance parts.uid id) parts ∷ []
 
--- what a to-do of a kind gives, where its effective sequence as an instance is eff
+-- what a to-do of a kind gives, if its effective sequence as an instance is eff
 abbrev pub drafts_of : Kind → ℕ → Parts → List ItemDraft
 drafts_of kind.Request eff parts = task_draft kind.Request eff parts.rid parts ∷ []
 drafts_of kind.Cancel eff parts = task_draft kind.Cancel eff parts.rid parts ∷ []

@@ -12,7 +12,7 @@ uid_of (Range uid id) = uid
 uid_of (Answer uid id attendee) = uid
 uid_of (Refresh uid id attendee) = uid
 
--- the place of the kinds of key
+-- the ranks of the kinds of key
 abbrev pub rank_of : Key → ℕ
 rank_of (Series uid) = 0
 rank_of (Instance uid id) = 1
@@ -20,7 +20,7 @@ rank_of (Range uid id) = 2
 rank_of (Answer uid id attendee) = 3
 rank_of (Refresh uid id attendee) = 4
 
--- the instance that a key is about, or from which on it is
+-- the instance that a key is about, or at which its range begins
 abbrev pub instance_of : Key → Option Moment
 instance_of (Series uid) = None
 instance_of (Instance uid id) = Some id
@@ -28,7 +28,7 @@ instance_of (Range uid id) = Some id
 instance_of (Answer uid id attendee) = id
 instance_of (Refresh uid id attendee) = id
 
--- the attendee that a key is about
+-- the attendee that a key is about, empty if there is none
 abbrev pub attendee_of : Key → List ℕ
 attendee_of (Series uid) = []
 attendee_of (Instance uid id) = []

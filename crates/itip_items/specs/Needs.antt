@@ -1,4 +1,4 @@
--- What a method needs of a to-do beside UID and DTSTAMP (our own rule).
+-- What a method needs of a to-do besides UID and DTSTAMP (our own rule).
 use Rattle.std.specs.Prelude.{◌≡◌, Bool, true, false, ◌||◌, ◌&&◌, not, IsTrue, List, [], ◌∷◌, codes, Option, Some, None}
 use Rattle.std.specs.Option.{is_some, is_none}
 use Rattle.std.specs.List.{list_all}
@@ -17,7 +17,7 @@ abbrev pub has_some : {A : Type 0} → List A → Bool
 has_some [] = false
 has_some (x ∷ xs) = true
 
--- The to-do is of an instance or recurs: it has RECURRENCE-ID, RRULE or RDATE. RDATE with `/` in its value stands among the others.
+-- The to-do is about an instance or recurs: it has RECURRENCE-ID, RRULE or RDATE. RDATE with `/` in its value is among the others.
 abbrev pub recurs : Parts → Bool
 recurs parts = is_some parts.rid || (has_some parts.rule || (has_some parts.rdates || has_period parts.others))
 
@@ -42,7 +42,7 @@ wants_some (attendee ∷ attendees) = None
 abbrev pub removes : Parts → Bool
 removes parts = is_none parts.status && has_some parts.attendees
 
--- what is wrong with a to-do that is not what its method needs beside UID and DTSTAMP (our own rule)
+-- why a to-do is not what its method needs besides UID and DTSTAMP (our own rule)
 abbrev pub method_cause : Method → Parts → Option MethodCause
 method_cause method.Request parts = None
 method_cause method.Add parts = missing_in parts.start (cause.Missing name.DtStart) (when (recurs parts) cause.AddForm)

@@ -1,4 +1,4 @@
--- The order of items by canonical octets (our own rule): items that are equal in it are one item.
+-- The order of items by canonical octets (our own rule): items that are equal in it are the same item.
 use Rattle.std.specs.Cmp.{IsTotalOrder}
 use Rattle.std.specs.Cmp.Lexicographic.{slice_cmp}
 use Rattle.std.specs.Ordering.{nat_cmp}

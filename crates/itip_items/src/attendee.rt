@@ -1,4 +1,4 @@
-//! What an answer or a refresh keeps of its to-do.
+//! What the item of an attendee keeps of its to-do.
 ghost use Rattle.std.specs.Prelude.{◌≡◌, ◌∷◌, [], IfOk};
 ghost use Rattle.itip_todo.specs.Lawful.{IsLawful};
 ghost use Rattle.itip_todo.specs.PartsOf.{parts_of};
@@ -13,9 +13,9 @@ use itip_moment::Moment;
 use itip_todo::{Property, Todo, Uid, attendee_key};
 use std::alloc::Global;
 
-/// The one attendee that it is of, and few properties (our own rule).
+/// The to-do with this one attendee and few properties (our own rule).
 ///
-/// The attendee has memory of its own, so that an answer that is kept keeps no other attendee.
+/// The attendee gets a text of its own, so that an answer that is kept does not keep the other attendees in memory.
 pub(crate) fn only_of(alloc: Global, attendee: &Property, todo: &Todo) -> Result<Todo, NoMemory>
     requires { IsLawful (only_of attendee.now (parts_of todo.now)) }
     ensures { IfOk result (λ only. parts_of only ≡ only_of attendee.now (parts_of todo.now)) }
@@ -24,7 +24,7 @@ pub(crate) fn only_of(alloc: Global, attendee: &Property, todo: &Todo) -> Result
     kept_with(alloc, attendees, todo)
 }
 
-/// The octets with which the canonical forms of the items of all attendees begin; `None` where no two can share them.
+/// The octets that the canonical forms of all attendees' items begin with; `None` if there are fewer than two attendees.
 pub(crate) fn shared_front(
     alloc: Global,
     kind: Kind,
@@ -42,9 +42,9 @@ pub(crate) fn shared_front(
     Ok(Some(front?))
 }
 
-/// Few properties, beside these attendees.
+/// The to-do with these attendees and few other properties.
 ///
-/// UID, the zone of RECURRENCE-ID and ORGANIZER are shared with the to-do, and so with all answers that it gives.
+/// UID, the zone of RECURRENCE-ID and ORGANIZER are shared with the to-do, and so with all answers made of it.
 fn kept_with(alloc: Global, attendees: ListOf<Property>, todo: &Todo) -> Result<Todo, NoMemory>
     requires { IsLawful (kept_with attendees (parts_of todo.now)) }
     ensures { IfOk result (λ kept. parts_of kept ≡ kept_with attendees (parts_of todo.now)) }
@@ -72,7 +72,7 @@ fn kept_with(alloc: Global, attendees: ListOf<Property>, todo: &Todo) -> Result<
     })
 }
 
-/// The list of a copy of this attendee, in memory of its own.
+/// A list of this attendee alone, with a text of its own.
 fn alone(alloc: Global, attendee: &Property) -> Result<ListOf<Property>, NoMemory>
     ensures { IfOk result (λ list. list ≡ attendee.now ∷ []) }
 {
@@ -81,7 +81,7 @@ fn alone(alloc: Global, attendee: &Property) -> Result<ListOf<Property>, NoMemor
     Ok(ListOf::from_vec(attendees))
 }
 
-/// UID, RECURRENCE-ID and ORGANIZER, which take no memory again.
+/// Clones of UID, RECURRENCE-ID and ORGANIZER, which share the memory of the to-do's.
 fn shared(todo: &Todo) -> Result<(Uid, Option<Moment>, Option<Property>), NoMemory>
     ensures { IfOk result (λ copy. (copy.0 ≡ todo.now.uid) × (copy.1 ≡ todo.now.rid) × (copy.2 ≡ todo.now.organizer)) }
 {
@@ -91,7 +91,7 @@ fn shared(todo: &Todo) -> Result<(Uid, Option<Moment>, Option<Property>), NoMemo
     Ok((uid, rid, organizer))
 }
 
-/// The key of what an attendee answers, or wants.
+/// The key of an attendee's answer or refresh; a removal has that of the answer.
 pub(crate) fn key_of(
     alloc: Global,
     kind: Kind,

@@ -20,19 +20,19 @@ use itip_lines::NoMemory;
 use itip_todo::{Todo, write_todo_front, write_todo_rest, write_todo_up_to};
 use std::alloc::Global;
 
-/// The most octets of an item's canonical form (our own limit).
+/// The maximum length of an item's canonical form, in octets (our own limit).
 const OCTETS_LIMIT: usize = 262_144;
 
-/// The most lines of an item's canonical form (our own limit).
+/// The maximum number of lines of an item's canonical form (our own limit).
 const LINES_LIMIT: usize = 20_000;
 
-/// More octets than most items have. They are written in such room, and copied into memory of their own size.
+/// More octets than most items have. They are written into a buffer of this size, and then copied into one of their own size.
 const USUAL: usize = 512;
 
-/// The lines around a to-do in canonical form.
+/// The number of lines around the properties of a to-do in canonical form.
 const FRAME_LINES: usize = 7;
 
-/// The item of a to-do in canonical form, where it is within the limits.
+/// Makes the item of a to-do in canonical form, or returns `TooLarge` if it is over the limits.
 pub(crate) fn finish_item(
     alloc: Global,
     kind: Kind,
@@ -48,7 +48,7 @@ pub(crate) fn finish_item(
     finish(kind, key, eff, todo, bytes)
 }
 
-/// The item of an attendee's to-do in canonical form, whose front is shared, where there is one, and where it is within the limits.
+/// Makes the item of an attendee's to-do in canonical form, as [`finish_item`] does. Its octets share the front, if there is one.
 pub(crate) fn finish_behind(
     alloc: Global,
     front: &Option<Front>,
@@ -65,7 +65,7 @@ pub(crate) fn finish_behind(
     finish(kind, key, eff, todo, bytes)
 }
 
-/// The item of a to-do in canonical form, of which these are the octets, or why there are none.
+/// Makes the item of a to-do in canonical form with these octets, or passes on why there are none.
 fn finish(
     kind: Kind,
     key: Key,
@@ -81,7 +81,7 @@ fn finish(
     match bytes {
         Ok(bytes) => Ok(item_of(kind, key, eff, todo, bytes)),
         Err(error) => {
-            // By calls: what is dropped in place is proved anew, field by field and case by case.
+            // Explicit calls: implicit drops would be proved anew, field by field and case by case.
             drop(key);
             drop(todo);
             Err(error)
@@ -89,7 +89,7 @@ fn finish(
     }
 }
 
-/// The item of a to-do in canonical form, whose bytes these are.
+/// The item of a to-do in canonical form with these bytes.
 fn item_of(kind: Kind, key: Key, eff: u32, todo: Todo, bytes: Octets) -> Item
     requires { IsItem key todo.seq eff todo.stamp bytes todo kind }
     ensures { IsItemOf (draft_of key eff todo kind) result }
@@ -105,8 +105,8 @@ fn item_of(kind: Kind, key: Key, eff: u32, todo: Todo, bytes: Octets) -> Item
     }
 }
 
-/// The canonical bytes of a to-do, where the form is within the limits. Nothing is written of too many lines, and few octets above
-/// the limit.
+/// The canonical bytes of a to-do, or `TooLarge` if they are over the limits. With too many lines nothing is written, and with too
+/// many octets only few above the limit.
 fn bytes_within(alloc: Global, kind: Kind, todo: &Todo) -> Result<Octets, ItemError>
     ensures bytes { IfOk result (λ bytes. (key : Key) (eff : ℕ) → IsWhole (draft_of key eff todo.now kind) bytes) }
     ensures large { IfErr result (λ e. (key : Key) (eff : ℕ) → IfLarge e (IsOver (draft_of key eff todo.now kind ∷ []))) }
@@ -121,7 +121,7 @@ fn bytes_within(alloc: Global, kind: Kind, todo: &Todo) -> Result<Octets, ItemEr
     Ok(Octets::new(octets))
 }
 
-/// The canonical bytes of a to-do, whose front is shared, where there is one, as [`bytes_within`] gives them.
+/// The canonical bytes of a to-do, as [`bytes_within`] returns them. They share the front, if there is one.
 fn bytes_sharing(
     alloc: Global,
     front: &Option<Front>,
@@ -138,8 +138,8 @@ fn bytes_sharing(
     }
 }
 
-/// The canonical bytes of a to-do that begin with this front, as [`bytes_within`] gives them. Nothing is written behind a front that is
-/// above the limit.
+/// The canonical bytes of a to-do that begin with this front, as [`bytes_within`] returns them. Nothing is written after a front that
+/// is above the limit.
 fn bytes_behind(alloc: Global, front: &Front, kind: Kind, todo: &Todo) -> Result<Octets, ItemError>
     requires { front.now ≡ front_octets kind (parts_of todo.now) }
     ensures bytes { IfOk result (λ bytes. (key : Key) (eff : ℕ) → IsWhole (draft_of key eff todo.now kind) bytes) }
@@ -158,7 +158,7 @@ fn bytes_behind(alloc: Global, front: &Front, kind: Kind, todo: &Todo) -> Result
     Ok(Octets::behind(front, own)?)
 }
 
-/// How many lines the canonical form has, or a number that is too great.
+/// The number of lines in the canonical form, capped at `usize::MAX`.
 fn line_count(todo: &Todo) -> usize
     ensures { (kind : Kind) → result ≡ min (length (canonical_contents kind (parts_of todo.now))) (2 ^ 64 - 1) }
 {
@@ -171,7 +171,7 @@ fn line_count(todo: &Todo) -> usize
         .saturating_add(todo.others.len())
 }
 
-/// How many lines the properties have that stand once.
+/// The number of lines of the properties that appear at most once.
 fn single_count(todo: &Todo) -> usize
     ensures count { result ≡ 3 + one_if (is_some todo.now.base) + one_if (is_some todo.now.rid) + one_if (is_some todo.now.start) + one_if
         (is_some todo.now.due) + one_if (is_some todo.now.status)
@@ -195,7 +195,7 @@ fn one_if(present: bool) -> usize
     usize::from(present)
 }
 
-/// The canonical octets of an item: a message of this to-do alone.
+/// Returns the canonical octets of an item: a message of this to-do alone.
 pub fn write_item(alloc: Global, item: &Item) -> Result<Vec<u8>, NoMemory>
     ensures { IfOk result (λ octets. octets.items ≡ item.now.bytes) }
 {
@@ -204,8 +204,8 @@ pub fn write_item(alloc: Global, item: &Item) -> Result<Vec<u8>, NoMemory>
     Ok(octets)
 }
 
-/// The canonical octets of a to-do under the method of a kind, as far as the limit allows: where they are more, what is written is
-/// more too, and maybe not all of them.
+/// The canonical octets of a to-do under the method of a kind, as far as the limit allows: if they exceed it, so do those returned,
+/// but some of them may be missing.
 fn write_canonical(alloc: Global, kind: Kind, todo: &Todo) -> Result<Vec<u8>, NoMemory>
     ensures { IfOk result (λ octets.
         AppendsUpTo canonical_octets_limit (canonical_contents kind (parts_of todo.now)) [] octets.items) }
@@ -229,7 +229,7 @@ pub(crate) fn write_front(alloc: Global, kind: Kind, todo: &Todo) -> Result<Fron
     Front::new(alloc, exact)
 }
 
-/// The canonical octets of a to-do behind its front, as far as there is room, as [`write_canonical`] gives them.
+/// The canonical octets of a to-do after its front, as far as there is room, as [`write_canonical`] returns them.
 fn write_closing(alloc: Global, todo: &Todo, room: usize) -> Result<Vec<u8>, NoMemory>
     ensures { IfOk result (λ octets. AppendsUpTo room (closing_contents (parts_of todo.now)) [] octets.items) }
 {

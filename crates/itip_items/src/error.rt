@@ -1,4 +1,4 @@
-//! Why the to-dos of a message give no items.
+//! Why no items could be made from the to-dos of a message.
 ghost use Rattle.std.specs.Prelude.{◌≡◌};
 ghost use Rattle.itip_items.specs.Given.{error_of_todo};
 ghost use Rattle.itip_items.specs.declared.error.FormError.TheVariants.{NoMemory};
@@ -8,10 +8,10 @@ use itip_todo::PropertyName;
 use std::alloc::{AllocError, AllocFailed};
 use thiserror::Error;
 
-/// What a to-do has or lacks that its method doesn't allow (our own rule).
+/// What a to-do has or lacks, against the rules of its method (our own rule).
 #[derive(Clone, Copy, PartialEq, Eq, Debug, Drop, Error)]
 pub enum MethodCause {
-    /// The property has to be there, and is not.
+    /// The property is required, and is missing.
     #[error("{0} is missing")]
     Missing(PropertyName),
     /// The property may appear once, and appears again.
@@ -35,7 +35,7 @@ pub(crate) enum ItemError {
 }
 
 impl ItemError {
-    /// The error of the items of a message, where this is that of the to-do of a number, from 1.
+    /// The error for a message, if this is that of its to-do with this number, from 1.
     pub(crate) fn of_todo(self, todo: usize) -> FormError
         ensures { result ≡ error_of_todo self todo }
     {
@@ -68,7 +68,7 @@ pub enum FormError {
     /// An allocation failed.
     #[error("no memory to make items")]
     NoMemory,
-    /// A canonical form that the to-do of this number, from 1, gives has more than 262,144 octets or 20,000 lines.
+    /// A canonical form of the to-do with this number, from 1, has more than 262,144 octets or 20,000 lines.
     #[error("a canonical form has more than 262,144 octets or 20,000 lines")]
     TooLarge { todo: usize },
 }

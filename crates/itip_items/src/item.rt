@@ -11,13 +11,13 @@ use std::cmp::Ordering;
 
 /// What one to-do of a message says to a desk.
 ///
-/// An item is one that a message gives: its key, kind, sequences and stamp are those of its to-do, and its
-/// octets are the canonical ones of that to-do under the method of its kind, within the limits.
+/// Every item is one that a message gives: its key, kind, sequences and stamp are those of its to-do, and its octets
+/// are the canonical ones of that to-do under the method of its kind, within the limits.
 #[derive(Debug, Drop)]
 pub struct Item {
     /// What the item speaks of.
     pub key: Key,
-    /// SEQUENCE as it stands.
+    /// The item's own SEQUENCE.
     pub own: u32,
     /// The effective sequence (our own rule).
     pub eff: u32,
@@ -65,7 +65,7 @@ impl Clone for Item {
                 kind: self.kind,
             }),
             Err(refused) => {
-                // By a call: what is dropped in place is proved anew, field by field and case by case.
+                // An explicit call: an implicit drop would be proved anew, field by field and case by case.
                 drop(key);
                 Err(refused)
             }

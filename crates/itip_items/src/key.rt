@@ -7,7 +7,7 @@ use std::cmp::Ordering;
 
 /// What an item speaks of. Of the items of one key the latest revision counts.
 ///
-/// An attendee is named by the address with ASCII letters in lower case.
+/// An attendee is identified by the address with ASCII letters in lower case.
 #[derive(Debug, PartialEq, Eq, PartialOrd, Ord, Drop)]
 pub enum Key {
     /// The to-do of a UID.
@@ -16,9 +16,9 @@ pub enum Key {
     Instance(Uid, Moment),
     /// The instance of a UID at a recurrence id and all after it (RANGE=THISANDFUTURE).
     Range(Uid, Moment),
-    /// What an attendee of a UID, or of its instance at a recurrence id, answers.
+    /// The answer of an attendee of a UID, or of its instance at a recurrence id.
     Answer(Uid, Option<Moment>, Text),
-    /// That an attendee of a UID, or of its instance at a recurrence id, wants the newest revision.
+    /// The request of an attendee of a UID, or of its instance at a recurrence id, for the newest revision.
     Refresh(Uid, Option<Moment>, Text),
 }
 
@@ -41,8 +41,8 @@ impl Key {
         }
     }
 
-    /// The place of the kind of the key: 0 for a to-do, 1 for an instance, 2 for a range, 3 for an answer, 4 for a
-    /// refresh request.
+    /// The rank of the kind of the key: 0 for a to-do, 1 for an instance, 2 for a range, 3 for an answer, 4 for a refresh
+    /// request.
     pub fn rank(&self) -> u8
         ensures { result ≡ rank_of self.now }
     {
@@ -55,7 +55,7 @@ impl Key {
         }
     }
 
-    /// The recurrence id of the instance or range that the key is about, or `None` where it is about the to-do as a whole.
+    /// The recurrence id of the instance or range that the key is about, or `None` if it is about the to-do as a whole.
     pub fn instance(&self) -> Option<&Moment>
         ensures { option_copied result ≡ instance_of self.now }
     {
@@ -73,7 +73,7 @@ impl Key {
         self.instance().cmp(&other.instance())
     }
 
-    /// The attendee that the key is about; the empty text where it is about none.
+    /// The attendee that the key is about; empty if it is about none.
     pub fn attendee(&self) -> &str
         ensures { result.now ≡ attendee_of self.now }
     {

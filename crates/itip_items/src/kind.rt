@@ -6,7 +6,7 @@ use std::fmt;
 use std::str::FromStr;
 use thiserror::Error;
 
-/// The methods that are read (RFC 5546 3.4). REQUEST, ADD and CANCEL are the organiser's, REPLY and REFRESH an attendee's.
+/// The methods that are read (RFC 5546 3.4). REQUEST, ADD and CANCEL are the organizer's, REPLY and REFRESH an attendee's.
 #[derive(Clone, Copy, Debug, PartialEq, Eq)]
 pub enum Method {
     Request,
@@ -48,7 +48,7 @@ impl Method {
     }
 }
 
-/// A text names no method that is read.
+/// The error for a text that names no method that is read.
 #[derive(Clone, Copy, PartialEq, Eq, Debug, Error)]
 #[error("no method that is read has this name")]
 pub struct BadMethod;
@@ -61,7 +61,7 @@ impl fmt::Display for Method {
     }
 }
 
-/// The name in upper case.
+/// Names have to be in upper case.
 impl FromStr for Method {
     type Err = BadMethod;
 
@@ -72,7 +72,7 @@ impl FromStr for Method {
     }
 }
 
-/// The method of a name in upper case.
+/// The method with this name, given in upper case, or `None` if there is none.
 pub fn method_named(name: &str) -> Option<Method>
     ensures { result ≡ method_named name.now }
 {

@@ -26,9 +26,9 @@ use itip_moment::Moment;
 use itip_todo::{Property, Todo, Uid};
 use std::alloc::Global;
 
-/// The items of the to-dos of a message, by to-do and then by ATTENDEE line.
+/// Makes the items of a message's to-dos, ordered by to-do and then by ATTENDEE line.
 ///
-/// Refused if a canonical form is too large, by the number of the first to-do that gives one, from 1.
+/// Returns [`FormError::TooLarge`] if a canonical form is too large, with the number, from 1, of the first to-do that has one.
 pub fn make_items(alloc: Global, method: Method, all: Vec<Todo>) -> Result<Vec<Item>, FormError>
     requires { AllByRecursion (Suits method) (map parts_of all.items) }
     ensures found { IfOk result (λ items. GivesItems (drafts method (map parts_of all.items)) items.items) }
@@ -45,7 +45,7 @@ pub fn make_items(alloc: Global, method: Method, all: Vec<Todo>) -> Result<Vec<I
     }
 }
 
-/// The items of a message's only to-do, whose effective sequence no other raises, in an empty vector.
+/// Makes the items of a message's only to-do, whose effective sequence no other raises. `items` is empty.
 fn make_alone(
     alloc: Global,
     method: Method,
@@ -63,7 +63,7 @@ fn make_alone(
     }
 }
 
-/// The items of several to-dos, as [`make_items`] gives them, in an empty vector.
+/// Makes the items of several to-dos, as [`make_items`] does. `items` is empty.
 fn make_several(
     alloc: Global,
     method: Method,
@@ -88,7 +88,7 @@ fn make_several(
     Ok(items)
 }
 
-/// Adds the items of one to-do, where `above` is the greatest SEQUENCE of the series to-dos of its UID beside it.
+/// Appends the items of one to-do. `above` is the greatest SEQUENCE of the series to-dos of its UID in the message.
 fn add_items(
     alloc: Global,
     method: Method,
@@ -117,7 +117,7 @@ fn add_items(
     }
 }
 
-/// Adds the item of the instance that DTSTART names.
+/// Appends the item of the instance that DTSTART names.
 fn add_instance(
     alloc: Global,
     above: u32,
@@ -155,7 +155,7 @@ fn started_key(todo: &Todo) -> Result<Option<Key>, NoMemory>
     }
 }
 
-/// The item of the series, or of the instance that RECURRENCE-ID names, or of it and all after it.
+/// Makes the item of the series, or of the instance that RECURRENCE-ID names, or of it and all after it.
 fn task_item(alloc: Global, kind: Kind, above: u32, todo: Todo) -> Result<Item, ItemError>
     requires { Sends kind (parts_of todo) × (is_task kind ≡ true) × (above ≤ 2147483647) }
     ensures found { IfOk result (Gives (task_draft kind (raised (parts_of todo) above) todo.rid (parts_of todo))) }
@@ -181,7 +181,7 @@ fn named_key(todo: &Todo) -> Result<Option<Key>, NoMemory>
     }
 }
 
-/// The item of the series. It has no X-DESK-BASE.
+/// Makes the item of the series. It has no X-DESK-BASE.
 fn series_item(alloc: Global, kind: Kind, todo: Todo) -> Result<Item, ItemError>
     requires { IsCanonical (series_draft kind (parts_of todo)) }
     ensures found { IfOk result (Gives (series_draft kind (parts_of todo))) }
@@ -200,7 +200,7 @@ fn series_item(alloc: Global, kind: Kind, todo: Todo) -> Result<Item, ItemError>
     }
 }
 
-/// The key of an instance, or of it and all after it.
+/// The key of an instance, or with `range` of it and all after it.
 fn instance_key(range: bool, uid: &Uid, id: &Moment) -> Result<Key, NoMemory>
     ensures { IfOk result (λ key. key ≡ instance_key range uid.now id.now) }
 {
@@ -213,7 +213,7 @@ fn instance_key(range: bool, uid: &Uid, id: &Moment) -> Result<Key, NoMemory>
     }
 }
 
-/// The item of an instance, or of it and all after it. X-DESK-BASE gets its canonical form.
+/// Makes the item of an instance, or of it and all after it. X-DESK-BASE gets its canonical form.
 fn instance_item(
     alloc: Global,
     kind: Kind,
@@ -231,21 +231,21 @@ fn instance_item(
     finish_item(alloc, kind, key, eff, todo)
 }
 
-/// The greatest of a to-do's SEQUENCE, its X-DESK-BASE, and this.
+/// The greatest of a to-do's SEQUENCE, its X-DESK-BASE, and `above`.
 fn raised(todo: &Todo, above: u32) -> u32
     ensures { result ≡ raised (parts_of todo.now) above }
 {
     todo.seq.max(todo.base.unwrap_or(0).max(above))
 }
 
-/// X-DESK-BASE in canonical form: the effective sequence, where it exceeds the own one.
+/// X-DESK-BASE in canonical form: the effective sequence, if it exceeds the own one.
 fn canonical_base(own: u32, eff: u32) -> Option<u32>
     ensures { result ≡ canonical_base own eff }
 {
     (own < eff).then_some(eff)
 }
 
-/// Adds one item for each ATTENDEE line. Their octets begin alike, and share what is alike.
+/// Appends one item for each ATTENDEE line. The octets of several share their common front.
 fn add_attendees(
     alloc: Global,
     kind: Kind,
@@ -263,7 +263,7 @@ fn add_attendees(
     Ok(())
 }
 
-/// The item of one attendee, with what an answer or a refresh keeps of its to-do. It shares the front of its octets, where there is one.
+/// Makes the item of one attendee, with what [`only_of`] keeps of the to-do. Its octets share the front, if there is one.
 fn attendee_item(
     alloc: Global,
     front: &Option<Front>,

@@ -1,4 +1,4 @@
-//! What a method needs of a to-do beside UID and DTSTAMP.
+//! What a method needs of a to-do besides UID and DTSTAMP.
 ghost use Rattle.std.specs.Prelude.{◌≡◌};
 ghost use Rattle.itip_todo.specs.PartsOf.{parts_of};
 ghost use Rattle.itip_items.specs.Needs.{method_cause, recurs, removes, has_some, wants_some, wants_one};
@@ -8,7 +8,7 @@ use crate::kind::Method;
 use itip_lines::ListOf;
 use itip_todo::{Property, PropertyName, Todo, has_period};
 
-/// What is wrong with a to-do that is not what its method needs (our own rule).
+/// Why a to-do is not what its method needs, or `None` if it is (our own rule).
 pub fn method_cause(method: Method, todo: &Todo) -> Option<MethodCause>
     ensures { result ≡ method_cause method (parts_of todo.now) }
 {
@@ -29,7 +29,7 @@ pub fn method_cause(method: Method, todo: &Todo) -> Option<MethodCause>
     }
 }
 
-/// Whether a to-do is of an instance or recurs. RDATE with `/` in its value stands among the others.
+/// Whether a to-do is about an instance or recurs. RDATE with `/` in its value is among the others.
 fn recurs(todo: &Todo) -> bool
     ensures { result ≡ recurs (parts_of todo.now) }
 {
@@ -39,7 +39,7 @@ fn recurs(todo: &Todo) -> bool
         || has_period(&todo.others)
 }
 
-/// Whether a to-do removes attendees in a CANCEL: it has no STATUS and names some.
+/// Whether a to-do in a CANCEL removes attendees: it has no STATUS and names some.
 pub(crate) fn removes(todo: &Todo) -> bool
     ensures { result ≡ removes (parts_of todo.now) }
 {

@@ -1,4 +1,4 @@
-//! Octets of which many can share the front, as a clause sees them: a list.
+//! Octets that can share their front with others, which contracts see as a list.
 ghost use Rattle.std.specs.Prelude.{◌≡◌, ◌++◌, List, ℕ, length, IfOk, OnOk, OnErr, refl};
 ghost use Rattle.std.specs.Ordering.{nat_cmp, as_partial_cmp, eq_by_cmp};
 ghost use Rattle.std.specs.Cmp.Lexicographic.{slice_cmp, nat_list_cmp_total};
@@ -10,7 +10,7 @@ use std::cmp::Ordering;
 use std::marker::Model;
 use std::sync::Arc;
 
-/// Octets with which others begin: a second one is a count more, and takes no memory.
+/// Octets that others begin with. They are reference-counted, so cloning does not allocate.
 #[derive(Debug, Drop)]
 pub(crate) struct Front {
     shared: Arc<Bytes>,
@@ -26,7 +26,7 @@ impl Model for Front {
 }
 
 impl Front {
-    /// The octets of a vector, whose memory they keep, to be shared.
+    /// Wraps the octets of a vector, to be shared, and keeps its memory.
     pub(crate) fn new(alloc: Global, octets: Vec<u8>) -> Result<Front, NoMemory>
         ensures { IfOk result (λ front. front ≡ octets.items) }
     {
@@ -53,7 +53,7 @@ impl Clone for Front {
     }
 }
 
-/// Octets, compared from the first to the last. The items of one to-do's attendees share the front of theirs, which is the same.
+/// Octets, compared lexicographically. Those of the items of one to-do's attendees share their common front.
 #[derive(Debug, Drop)]
 pub struct Octets {
     front: Option<Front>,
@@ -69,7 +69,7 @@ impl Model for Octets {
 }
 
 impl Octets {
-    /// The octets of a vector, whose memory they keep.
+    /// Wraps the octets of a vector, and keeps its memory.
     pub(crate) fn new(octets: Vec<u8>) -> Octets
         ensures { result ≡ octets.items }
     {
@@ -79,7 +79,7 @@ impl Octets {
         }
     }
 
-    /// A front, which is shared, and the octets behind it, whose memory they keep.
+    /// A shared front, followed by the octets of a vector, whose memory is kept.
     pub(crate) fn behind(front: &Front, own: Vec<u8>) -> Result<Octets, NoMemory>
         ensures { IfOk result (λ octets. octets ≡ front.now ++ own.items) }
     {
@@ -89,7 +89,7 @@ impl Octets {
         })
     }
 
-    /// The front, empty where none is shared, and the octets behind it.
+    /// The front, empty if none is shared, and the octets after it.
     fn pieces(&self) -> (&[u8], &[u8])
         ensures { self.now ≡ result.0.now ++ result.1.now }
     {
@@ -100,14 +100,14 @@ impl Octets {
         }
     }
 
-    /// The octets behind the front that is shared: all where none is.
+    /// The octets after the shared front; all of them if there is none.
     pub fn own(&self) -> &[u8]
         ensures { (front : List ℕ) × (self.now ≡ front ++ result.now) }
     {
         self.own.as_slice()
     }
 
-    /// How many they are.
+    /// The number of octets.
     pub fn len(&self) -> usize
         ensures { result ≡ length self.now }
     {
@@ -115,7 +115,7 @@ impl Octets {
         front.len() + own.len()
     }
 
-    /// Appends them to a vector. On an error, when memory was refused, the vector is as before.
+    /// Appends the octets to a vector. If an allocation fails, the vector is left unchanged.
     pub fn append_to(&self, out: &mut Vec<u8>) -> Result<(), NoMemory>
         ensures ok { OnOk result (out.new.items ≡ out.old.items ++ self.now) }
         ensures err { OnErr result (out.new.items ≡ out.old.items) }
@@ -187,7 +187,7 @@ impl Ord for Octets {
     }
 }
 
-/// The order of octets in two pieces and others in two pieces: slices are compared, and none is put together.
+/// Compares octets in two pieces with others in two pieces, without joining them.
 fn cmp_pieces(front: &[u8], own: &[u8], other_front: &[u8], other_own: &[u8]) -> Ordering
     ensures { result ≡ slice_cmp nat_cmp (front.now ++ own.now) (other_front.now ++ other_own.now) }
 {
@@ -202,7 +202,7 @@ fn cmp_pieces(front: &[u8], own: &[u8], other_front: &[u8], other_own: &[u8]) ->
     }
 }
 
-/// The order of octets and others in two pieces.
+/// Compares octets with others in two pieces.
 fn cmp_behind(octets: &[u8], front: &[u8], own: &[u8]) -> Ordering
     ensures { result ≡ slice_cmp nat_cmp octets.now (front.now ++ own.now) }
 {

@@ -32,7 +32,7 @@ impl PartialOrd for Item {
     }
 }
 
-/// By canonical octets.
+/// Items are ordered by their canonical octets.
 impl Ord for Item {
     ghost cmp = { octets_cmp };
 

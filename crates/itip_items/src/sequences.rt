@@ -31,7 +31,7 @@ pub(crate) fn series_sequences(
     Ok(greatest)
 }
 
-/// Raises the sequence of a to-do's UID to that of the to-do.
+/// Raises the sequence of a to-do's UID to that of the to-do, if it is greater.
 fn raise(greatest: &mut BTreeMap<Uid, u32>, todo: &Todo) -> Result<(), NoMemory>
     ensures { OnOk result ((uid : List ℕ) → unwrap_or (get (slice_cmp nat_cmp) greatest.new uid) 0
         ≡ max (unwrap_or (get (slice_cmp nat_cmp) greatest.old uid) 0) (cond (pointwise nat_eq todo.now.uid uid) todo.now.seq 0)) }
@@ -41,21 +41,21 @@ fn raise(greatest: &mut BTreeMap<Uid, u32>, todo: &Todo) -> Result<(), NoMemory>
     Ok(())
 }
 
-/// The sequence of a UID, 0 where it is not in the map.
+/// The sequence of a UID, 0 if it is not in the map.
 pub(crate) fn sequence_in(greatest: &BTreeMap<Uid, u32>, uid: &Uid) -> u32
     ensures { result ≡ unwrap_or (get (slice_cmp nat_cmp) greatest.now uid.now) 0 }
 {
     greatest.get(uid).copied().unwrap_or(0)
 }
 
-/// Whether a to-do is the series: without RECURRENCE-ID in a REQUEST, or in a CANCEL that removes no attendee.
+/// Whether a to-do is a series to-do: one without RECURRENCE-ID in a REQUEST, or in a CANCEL that removes no attendee.
 fn is_series(method: Method, todo: &Todo) -> bool
     ensures { result ≡ is_series method (parts_of todo.now) }
 {
     todo.rid.is_none() && is_task(kind_of(method, todo))
 }
 
-/// Whether a kind speaks of the to-do or an instance as a whole, named by RECURRENCE-ID.
+/// Whether items of this kind speak of the to-do, or of an instance or range that RECURRENCE-ID names, as a whole.
 fn is_task(kind: Kind) -> bool
     ensures { result ≡ is_task kind }
 {

@@ -1,4 +1,4 @@
--- Values with a proof beside them are equal where they are equal without it; and a fact that holds, at a refusal.
+-- Values that carry a proof are equal if they are equal without it; and a fact that holds, at an error.
 use Rattle.std.proofs.Common.{◌≡◌, Ok, Err, Result}
 use Rattle.std.specs.Prelude.{OnErr, OnOk}
 use Rattle.std.specs.Map.{keys_of}

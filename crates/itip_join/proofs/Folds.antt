@@ -1,4 +1,4 @@
--- What follows from the order alone: a fold of joins is the least that tells what its values tell.
+-- What follows from the order alone: a fold of joins is the least value that tells what its values tell.
 use Rattle.std.proofs.Common.{◌≡◌, sym, subst, refl, List, [], ◌∷◌, ◌++◌, inl, inr, arith}
 use Rattle.std.specs.Prelude.{◌⊎◌}
 use Rattle.std.specs.List.{Contains}
@@ -34,7 +34,7 @@ pub record IsOrder {T : Type 0} (le : T → T → Type 0) : Type 0 where
   pub antisymmetric : (x y : T) → le x y → le y x → x ≡ y
 
 module _ {T : Type 0} {le : T → T → Type 0} (o : IsOrder le) where
-  -- there is one least upper bound
+  -- there is only one least upper bound
   pub one_join : (x y z w : T) → IsJoinOf le x y z → IsJoinOf le x y w → z ≡ w
   one_join x y z w j k = o.antisymmetric z w (j.least w k.above_first k.above_second) (k.least z j.above_first j.above_second)
 

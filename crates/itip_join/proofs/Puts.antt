@@ -49,7 +49,7 @@ module _ {K : Type 0} {cmp : K → K → Ordering} (total : IsTotalOrder cmp) wh
   pub itself : (x : K) → is_eq (cmp x x) ≡ true
   itself x = ap is_eq (tied_itself total x)
 
--- ---- pairs that are put in
+-- ---- pairs that are put back
 module _ {K V : Type 0} (cmp : K → K → Ordering) where
   pub before_push : (q : K) (o : Option V) (ps : List (K × V)) (p : K × V) →
       before cmp q o (ps ++ p ∷ []) ≡ before cmp q (cond (is_eq (cmp p.0 q)) (Some p.1) o) ps

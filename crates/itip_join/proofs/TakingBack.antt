@@ -1,4 +1,4 @@
--- Changes of a map are noted one by one, and can be taken back.
+-- Changes of a map are noted one by one, and can be undone.
 use Rattle.std.proofs.Common.{◌≡◌, sym, ◌∙◌, ap, subst, refl, Bool, true, false, ◌||◌, List, [], ◌∷◌, ◌++◌, Some, None, inl, inr, arith}
 use Rattle.std.proofs.Common.{Result, Ok, Err}
 use Rattle.std.specs.Prelude.{cond, Option, is_some, ◌⊎◌, length, slice_get, IfSome, OnErr}
@@ -40,7 +40,7 @@ by_bool : (b : Bool) (G : Type 0) → (b ≡ true → G) → (b ≡ false → G)
 by_bool b G at_true at_false = elim b as (λ x. b ≡ x → G) [ true ↦ at_true | false ↦ at_false ] refl
 
 module _ {K V : Type 0} {cmp : K → K → Ordering} where
-  -- at the other keys nothing changes
+  -- nothing changes at the other keys
   pub others_same : {k : K} {now now' : K → Option V} {added added' : List K} {raised raised' : List (K × V)} →
       IsNoted cmp k now now' added raised added' raised'
       → (q : K) → is_eq (cmp k q) ≡ false → now' q ≡ now q
@@ -127,7 +127,7 @@ module _ {K V : Type 0} {cmp : K → K → Ordering} (exact : (x y : K) → cmp 
         earlier : (q : K) → has_key cmp q (raised ++ (k, v) ∷ []) ≡ true → is_eq (cmp k q) ≡ false → has_key cmp q raised ≡ true
         earlier q h e = or_first (has_key cmp q raised) (is_eq (cmp k q)) (sym (has_key_push cmp q raised (k, v)) ∙ h) e
 
-    -- what is noted of one key can be taken back too
+    -- what is noted for one key can be undone too
     pub noted_one : (added' : List K) (raised' : List (K × V)) → IsNoted cmp k now now' added raised added' raised' →
         TakesBack cmp mine now' added' raised'
     noted_one added' raised' (is_same same a r) = rw (a, r) (record {
@@ -178,7 +178,7 @@ module _ {K V : Type 0} {cmp : K → K → Ordering} (total : IsTotalOrder cmp) 
 -- ---- the walk of a merge
 module _ {K V : Type 0} {cmp : K → K → Ordering} (total : IsTotalOrder cmp) (exact : (x y : K) → cmp x y ≡ Equal → x ≡ y)
     (le : V → V → Type 0) (dead : K → V → Bool) (mine theirs : K → Option V) where
-  -- at the keys that it has passed the map has the join, at those to come what it had
+  -- at the keys that it has passed, the map has the join, and at those to come what it had
   abbrev pub IsMergeWalk : (K → Option V) → List (K × V) → Type 0
   IsMergeWalk now rest =
       IsWalk cmp theirs (λ q. IsJoinOf (IsBelowAt le) (mine q) (alive_part (dead q) (theirs q)) (now q)) (λ q. now q ≡ mine q) rest

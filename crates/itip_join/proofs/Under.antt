@@ -30,7 +30,7 @@ module _ {V : Type 0} (le : V → V → Type 0) where
       by (inr p) = inl (IsBelowAt-antisym le s c a (j.least a (IsBelowAt-refl le r a) p) j.above_first)
 
   module _ (dead : V → Bool) (down : (x y : V) → dead y ≡ true → le x y → dead x ≡ true) where
-    -- what is below a value is below it, or dead, once the dead is dropped
+    -- what is below a value is below it or dead, once the dead are dropped
     kept_above : (x z : V) → le x z → IsBelowUnder dead le (Some x) (alive_part dead (Some z))
     kept_above x z l = elim (dead z) as (λ b. dead z ≡ b → IsBelowUnder dead le (Some x) (cond b None (Some z))) [
       | true ↦ λ d. down x z d l
@@ -120,7 +120,7 @@ module _ {K V : Type 0} (dead : K → V → Bool) where
             ]
       ] refl
 
--- where nothing dies, all is kept
+-- if nothing dies, all is kept
 pub alive_part_all : {V : Type 0} (o : Option V) → alive_part (λ _. false) o ≡ o
 alive_part_all None = refl
 alive_part_all (Some x) = refl

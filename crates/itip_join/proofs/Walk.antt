@@ -35,7 +35,7 @@ module _ {K V : Type 0} {cmp : K → K → Ordering} (total : IsTotalOrder cmp) 
     same_key : (q : K) → is_eq (cmp q k) ≡ true → k ≡ q
     same_key q e = sym (exact q k ((Equal-is (cmp q k)).0 e))
 
-    -- the walk passes the next entry, where P' and R' hold at the other keys where P and R did
+    -- the walk passes the next entry, if P' and R' hold at the other keys at which P and R did
     pub walk_step : (P' R' : K → Type 0) → P' k → ((q : K) → is_eq (cmp q k) ≡ false → P q → P' q) →
         ((q : K) → is_eq (cmp q k) ≡ false → R q → R' q)
         → IsWalk cmp all P' R' rest

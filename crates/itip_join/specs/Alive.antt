@@ -1,4 +1,4 @@
--- A test that holds has one proof, so two values with that proof beside them are equal where they are equal without it (our own form).
+-- A test that holds has one proof, so two values that carry this proof are equal if they are equal without it (our own form).
 use Rattle.std.specs.Prelude.{◌≡◌, Bool, true, false, ◌&&◌}
 use mathlib.Core.Path.{PathP}
 use mathlib.Core.HLevel.{is_prop→PathP}

@@ -1,11 +1,11 @@
--- How a map is changed entry by entry, and how the changes are taken back (our own form).
+-- How a map is changed entry by entry, and how the changes are undone (our own form).
 use Rattle.std.specs.Prelude.{◌≡◌, ◌⊎◌, Bool, true, false, cond, ◌||◌, List, [], ◌∷◌, ◌++◌, map, Option, Some, None, is_some}
 use Rattle.std.specs.Ordering.{is_eq}
 use Rattle.std.specs.declared.cmp.Ordering.{Ordering}
 use Rattle.itip_join.specs.declared.merge.Undo.{Undo}
 
 module _ {K : Type 0} (cmp : K → K → Ordering) (q : K) where
-  -- what is at the key q where o is, once the pairs are put back, the last first
+  -- what is at the key q, where o is now, once the pairs are put back, the last first
   abbrev pub before : {V : Type 0} → Option V → List (K × V) → Option V
   before o [] = o
   before o (p ∷ ps) = cond (is_eq (cmp p.0 q)) (Some p.1) (before o ps)
@@ -20,17 +20,17 @@ module _ {K : Type 0} (cmp : K → K → Ordering) (q : K) where
   is_listed [] = false
   is_listed (k ∷ ks) = is_eq (cmp k q) || is_listed ks
 
-  -- what is at the key q where o is, once the keys that were added are out and the pairs are back
+  -- what is at the key q, where o is now, once the added keys are removed and the pairs are put back
   abbrev pub restored : {V : Type 0} → Option V → List K → List (K × V) → Option V
   restored o added raised = before (cond (is_listed added) None o) raised
 
--- a value in the place of what stands somewhere, if anything does
+-- a value in place of what is somewhere, if anything is
 abbrev pub replaced : {V : Type 0} → Option V → V → Option V
 replaced None value = None
 replaced (Some old) value = Some value
 
--- A map that had `mine` has `now`. The keys that were added are new, and the pairs stood where others stand; with the
--- changes taken back the map is as it was.
+-- A map that had `mine` has `now`. The added keys are new, and where the pairs were there are values now too; once the changes are undone
+-- the map is as it was.
 pub record TakesBack {K V : Type 0} (cmp : K → K → Ordering) (mine now : K → Option V) (added : List K) (raised : List (K × V)) : Type 0
   where
     pub added_are_new : (q : K) → is_listed cmp q added ≡ true → mine q ≡ None
@@ -62,6 +62,6 @@ IsNotedIn cmp k now now' u u' = IsNoted cmp k now now' (keys_in u) (pairs_in u) 
 abbrev pub IsRaisedIn : {K V : Type 0} → K → V → V → Undo K V → Undo K V → Type 0
 IsRaisedIn k v v' u u' = (keys_in u' ≡ keys_in u) × (((v' ≡ v) × (pairs_in u' ≡ pairs_in u)) ⊎ (pairs_in u' ≡ pairs_in u ++ (k, v) ∷ []))
 
--- what is noted can be taken back from a map that has `now`
+-- what is noted can be undone in a map that has `now`
 abbrev pub CanTakeBack : {K V : Type 0} → (K → K → Ordering) → (K → Option V) → Undo K V → Type 0
 CanTakeBack {K} cmp now u = (q : K) → has_key cmp q (pairs_in u) ≡ true → (is_listed cmp q (keys_in u) ≡ false) × (is_some (now q) ≡ true)

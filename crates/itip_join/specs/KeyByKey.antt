@@ -17,15 +17,15 @@ use Rattle.itip_join.specs.Optional.{IsBelowAt, IsBelowAt-antisym, IsBelowUnder,
 abbrev pub value_at : {K V : Type 0} → (K → K → Ordering) → List (K × V) → K → Option V
 value_at cmp es q = lookup (λ k. is_eq (cmp q k)) es
 
--- at each key es tells no more than fs
+-- at each key, es tells no more than fs
 abbrev pub IsMapBelow : {K V : Type 0} → (K → K → Ordering) → (V → V → Type 0) → List (K × V) → List (K × V) → Type 0
 IsMapBelow {K} cmp le es fs = (k : K) → IsBelowAt le (value_at cmp es k) (value_at cmp fs k)
 
--- the same, but for what is dead
+-- the same, apart from what is dead
 abbrev pub IsMapBelowUnder : {K V : Type 0} → (K → V → Bool) → (K → K → Ordering) → (V → V → Type 0) → List (K × V) → List (K × V) → Type 0
 IsMapBelowUnder {K} dead cmp le es fs = (k : K) → IsBelowUnder (dead k) le (value_at cmp es k) (value_at cmp fs k)
 
--- at each key gs has the join of what es and fs have, but for what is dead in fs
+-- at each key, gs has the join of what es and fs have, apart from what is dead in fs
 abbrev pub IsMergeOf : {K V : Type 0} → (K → K → Ordering) → (V → V → Type 0) → (K → V → Bool) → List (K × V) → List (K × V) →
     List (K × V) → Type 0
 IsMergeOf {K} cmp le dead es fs gs = (k : K) →

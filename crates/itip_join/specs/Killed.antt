@@ -26,7 +26,7 @@ same_value : {V : Type 0} (x y : V) → Some x ≡ Some y → x ≡ y
 same_value x y e = cc
 
 module _ {K V : Type 0} {cmp : K → K → Ordering} (exact : (x y : K) → cmp x y ≡ Equal → x ≡ y) (dead : K → V → Bool) where
-  -- what a map with no dead entry has at a key is alive
+  -- what a map without dead entries has at a key is alive
   pub found_alive : (es : List (K × V)) → all_alive dead es ≡ true → (q : K) (x : V) → value_at cmp es q ≡ Some x → dead q x ≡ false
   found_alive [] h q x e = absurd (cc)
   found_alive (p ∷ ps) h q x e =
@@ -38,7 +38,7 @@ module _ {K V : Type 0} {cmp : K → K → Ordering} (exact : (x y : K) → cmp 
         | false ↦ λ k f. found_alive ps (second_holds (not (dead p.0 p.1)) (all_alive dead ps) h) q x f
       ] refl e
 
-  -- two maps with no dead entry, each below the other but for what is dead, are the same
+  -- two maps without dead entries, each below the other apart from what is dead, are the same
   pub IsMapBelowUnder-antisym : IsTotalOrder cmp → (le : V → V → Type 0) → ((x y : V) → le x y → le y x → x ≡ y)
       → (es fs : List (K × V)) → IsStrictlySortedBy cmp (keys_of es) → IsStrictlySortedBy cmp (keys_of fs)
       → all_alive dead es ≡ true → all_alive dead fs ≡ true → IsMapBelowUnder dead cmp le es fs → IsMapBelowUnder dead cmp le fs es →

@@ -1,4 +1,4 @@
--- The order of a value that may be missing: nothing is below all (our own form).
+-- The order of a value that may be missing: `Nothing` is below every value (our own form).
 use Rattle.std.specs.Prelude.{◌≡◌, ◌⊎◌}
 use Rattle.std.proofs.Common.{ap, refl, inl, inr}
 use Rattle.itip_join.specs.declared.lift.Lift.{Lift}

@@ -1,4 +1,4 @@
--- What a map has at one key, in order: no value is below every value (our own form).
+-- The order of what a map has at one key: a missing value is below every value (our own form).
 use Rattle.std.specs.Prelude.{◌≡◌, Bool, true, false, cond, Option, Some, None, ◌⊎◌}
 use Rattle.std.proofs.Common.{ap, refl, inl, inr}
 
@@ -8,7 +8,7 @@ IsBelowAt le None y = Unit {0}
 IsBelowAt le (Some x) None = ⊥
 IsBelowAt le (Some x) (Some y) = le x y
 
--- the same, where the first may be dead instead
+-- the same, or the first is dead
 abbrev pub IsBelowUnder : {V : Type 0} → (V → Bool) → (V → V → Type 0) → Option V → Option V → Type 0
 IsBelowUnder dead le None y = Unit {0}
 IsBelowUnder dead le (Some x) None = dead x ≡ true
@@ -54,7 +54,7 @@ module _ {V : Type 0} (le : V → V → Type 0) where
   IsBelowUnder-trans dead more t down grows (Some x) (Some y) (Some z) (inr l) (inl d) = inl (down x y d l)
   IsBelowUnder-trans dead more t down grows (Some x) (Some y) (Some z) (inr l) (inr m) = inr (t x y z l m)
 
-  -- where the first is alive, it is below the second
+  -- if the first is alive, it is below the second
   pub IsBelowUnder-alive : (dead : V → Bool) (a b : Option V) → ((x : V) → a ≡ Some x → dead x ≡ false) → IsBelowUnder dead le a b →
       IsBelowAt le a b
   IsBelowUnder-alive dead None b h p = tt
@@ -62,7 +62,7 @@ module _ {V : Type 0} (le : V → V → Type 0) where
   IsBelowUnder-alive dead (Some x) (Some y) h (inl d) = let e : dead x ≡ false = h x refl in absurd (cc)
   IsBelowUnder-alive dead (Some x) (Some y) h (inr l) = l
 
-  -- where nothing dies
+  -- if nothing dies
   pub IsBelowAt-from_under : (a b : Option V) → IsBelowUnder (λ _. false) le a b → IsBelowAt le a b
   IsBelowAt-from_under a b p = IsBelowUnder-alive (λ _. false) a b (λ x e. refl) p
 

@@ -1,4 +1,4 @@
--- The order of values that a comparison ranks: x is up to y where it is not greater (our own form).
+-- The order of values that a comparison ranks: x is up to y if it is not greater (our own form).
 use Rattle.std.specs.Prelude.{◌≡◌, false, true, ◌⊎◌, Option, Some, None}
 use Rattle.std.proofs.Common.{sym, ◌∙◌, ap, refl, inl, inr}
 use Rattle.std.specs.Ordering.{is_gt, is_lt, ordering_reverse}
@@ -37,7 +37,7 @@ module _ {T : Type 0} {cmp : T → T → Ordering} (total : IsTotalOrder cmp) wh
   pub IsUpTo-comparable : (x y : T) → IsUpTo cmp x y ⊎ IsUpTo cmp y x
   IsUpTo-comparable x y = either (cmp x y) (cmp y x) (total.antisymm x y)
 
-  -- what is up to something less is less; and what is less than something up to a third is less than it
+  -- if x is up to y and y is less than z, x is less than z; and so it is if x is less than y and y is up to z
   pub less_after : (x y z : T) → IsUpTo cmp x y → cmp y z ≡ Less → cmp x z ≡ Less
   less_after x y z p q = by (cmp x y) refl p
     where
@@ -59,14 +59,14 @@ module _ {T : Type 0} {cmp : T → T → Ordering} (total : IsTotalOrder cmp) wh
   is_less Equal e = absurd (cc)
   is_less Greater e = absurd (cc)
 
-  -- the two, of a test: what a guard owes that kills what is less than itself
+  -- the same two as a test: what a guard that kills what is less than itself has to prove
   pub is_lt-below : (x y z : T) → is_lt (cmp y z) ≡ true → IsUpTo cmp x y → is_lt (cmp x z) ≡ true
   is_lt-below x y z l p = ap is_lt (less_after x y z p (is_less (cmp y z) l))
 
   pub is_lt-above : (x y z : T) → IsUpTo cmp y z → is_lt (cmp x y) ≡ true → is_lt (cmp x z) ≡ true
   is_lt-above x y z p l = ap is_lt (less_before x y z (is_less (cmp x y) l) p)
 
--- where the order of the values tells all of them apart, so does theirs with nothing before them
+-- if an order tells all values apart, so does the order in which `None` comes before them
 pub exact_option : {T : Type 0} (cmp : T → T → Ordering) → ((x y : T) → cmp x y ≡ Equal → x ≡ y) → (a b : Option T) →
     option_cmp cmp a b ≡ Equal → a ≡ b
 exact_option cmp exact None None e = refl

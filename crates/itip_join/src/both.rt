@@ -4,12 +4,12 @@ ghost use Rattle.itip_join.specs.Alive.{first_of_both, second_of_both};
 
 use crate::{Join, NoMemory, UnderGuard};
 
-/// Two values side by side, each joined by itself.
+/// Two values side by side, each joined separately.
 #[derive(Debug, Drop)]
 pub struct Both<A, B> {
-    /// The one part.
+    /// The first part.
     pub first: A,
-    /// The other part.
+    /// The second part.
     pub second: B,
 }
 
@@ -30,7 +30,7 @@ impl<A: Join, B: Join> Join for Both<A, B> {
         if other.first.below(&self.first) {
             return self.second.join(&other.second);
         }
-        // The first part is joined beside itself, since the second may be refused memory.
+        // The first part is joined in a copy, since the second may fail for lack of memory.
         let mut first = self.first.copy()?;
         first.join(&other.first)?;
         self.second.join(&other.second)?;
@@ -50,7 +50,7 @@ impl<A: Join, B: Join> Join for Both<A, B> {
     }
 }
 
-/// A guard kills entries of either.
+/// A guard kills entries of both parts.
 impl<S: Join, A: UnderGuard<S>, B: UnderGuard<S>> UnderGuard<S> for Both<A, B> {
     ghost le_under = { λ s x y. A.le_under s x.first y.first × B.le_under s x.second y.second };
 

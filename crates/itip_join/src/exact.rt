@@ -6,12 +6,12 @@ ghost use Rattle.itip_join.specs.Ranked.{exact_option};
 
 use crate::NoMemory;
 
-/// A total order in which two values are equal only where they are the same value: what keys and revisions have.
+/// A total order in which two values are equal only if they are the same value, as keys and revisions have.
 ///
-/// An order that leaves something out, such as a name's letter case, is not exact: two copies could then hold different
-/// values that count as equal.
+/// An order that leaves something out, such as the letter case of a name, is not exact: two copies could then hold different values that
+/// count as equal.
 pub trait Exact: Ord + Drop {
-    /// A second value, equal to this one, if there is the memory for it.
+    /// A second value, equal to this one. Fails if an allocation fails.
     fn copy(&self) -> Result<Self, NoMemory>
         ensures { IfOk result (λ copy. copy ≡ self.now) };
 
@@ -43,7 +43,7 @@ impl Exact for u64 {
     }
 }
 
-/// Nothing stands before every value.
+/// `None` comes before every value.
 impl<T: Exact> Exact for Option<T> {
     ghost exact = { exact_option T.cmp T.exact };
 

@@ -5,10 +5,10 @@ use crate::Join;
 
 /// A value that makes items of a map with keys `K` and values `V` dead.
 ///
-/// The more it tells, the more it kills; and with an item it kills all of its key that is not later. A guard that kills
-/// what is less than itself has both laws from `is_lt-below` and `is_lt-above` of the crate's `specs/Ranked`.
+/// The more it tells, the more it kills; and along with an item it kills every item of the same key that is at most that one. A guard that
+/// kills what is less than itself gets both laws from `is_lt-below` and `is_lt-above` in `specs/Ranked` of this crate.
 pub trait Guard<K, V: Join>: Join {
-    /// `is_dead s k v`: under the guard s the item v of the key k is dead.
+    /// `is_dead s k v`: under the guard s, the item v of the key k is dead.
     ghost is_dead: { Self → K → V → Bool };
 
     /// Whether this guard makes the item `value` of `key` dead.

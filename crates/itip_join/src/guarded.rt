@@ -7,8 +7,8 @@ use crate::{Join, NoMemory, UnderGuard};
 
 /// Entries under a guard, none of them dead.
 ///
-/// (g, m) is below (h, n) where g is below h, and each entry of m is at most n's entry of that key, or dead under h. So
-/// an entry may vanish in a join.
+/// (g, m) is below (h, n) if g is below h, and each entry of m is at most n's entry at that key, or dead under h. So an entry may vanish
+/// in a join.
 #[derive(Debug, Drop)]
 pub struct Guarded<S: Join, M: UnderGuard<S>> {
     /// What makes entries dead.
@@ -20,7 +20,7 @@ pub struct Guarded<S: Join, M: UnderGuard<S>> {
 }
 
 impl<S: Join, M: UnderGuard<S>> Guarded<S, M> {
-    /// The entries that `guard` does not kill, under it. It takes no memory.
+    /// The entries that `guard` does not kill, under this guard. Allocates nothing.
     pub fn new(guard: S, mut entries: M) -> Guarded<S, M>
         ensures guard { result.guard ≡ guard }
         ensures keeps { M.le_under guard entries result.entries }

@@ -4,15 +4,15 @@ ghost use Rattle.itip_join.specs.Bounds.{IsJoinOf};
 
 use crate::NoMemory;
 
-/// Values in an order of knowledge, in which any two have a least value above both: their join.
+/// Values in an order of knowledge in which any two have a least value above both: their join.
 pub trait Join: Drop {
     /// `le x y`: y tells all that x tells.
     ghost le: { Self → Self → Type 0 };
 
-    /// Makes this value the join of itself and `other`: the least that tells what either tells.
+    /// Makes this value the join of itself and `other`: the least value that tells what either tells.
     ///
-    /// Where memory is refused nothing has changed. It is not asked for where this value already tells what `other`
-    /// tells: then the answer is Ok, and nothing changes.
+    /// If an allocation fails, nothing has changed. If this value already tells all that `other` tells, the join allocates nothing,
+    /// succeeds, and changes nothing.
     fn join(&mut self, other: &Self) -> Result<(), NoMemory>
         ensures joined { OnOk result (IsJoinOf le self.old other.now self.new) }
         ensures err { OnErr result (self.new ≡ self.old) }
@@ -23,21 +23,21 @@ pub trait Join: Drop {
     fn below(&self, other: &Self) -> bool
         ensures { IsTrue result ↔ le self.now other.now };
 
-    /// A second value, equal to this one, if there is the memory for it.
+    /// A second value, equal to this one. Fails if an allocation fails.
     fn copy(&self) -> Result<Self, NoMemory>
         ensures { IfOk result (λ copy. copy ≡ self.now) };
 
-    /// Each value tells what it tells.
+    /// Each value tells what it tells itself.
     ghost reflexive: { (x : Self) → le x x };
 
-    /// What tells more than more tells more.
+    /// If y tells all that x tells, and z all that y tells, then z tells all that x tells.
     ghost transitive: { (x y z : Self) → le x y → le y z → le x z };
 
     /// Two values that tell the same are the same.
     ghost antisymmetric: { (x y : Self) → le x y → le y x → x ≡ y };
 }
 
-/// Values of which, of any two, one is below the other.
+/// Values of which any two are ordered: one of them is below the other.
 pub trait Chain: Join {
     /// One of the two is below the other.
     ghost comparable: { (x y : Self) → Self.le x y ⊎ Self.le y x };

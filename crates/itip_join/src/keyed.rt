@@ -15,17 +15,17 @@ ghost use mathlib.Core.HLevel.{is_prop→PathP};
 use crate::{Chain, Exact, Guard, Join, NoMemory, OrderedMap, UnderGuard};
 use std::alloc::Global;
 
-/// A map, joined key by key: where one map has no entry, the other's stands.
+/// A map, joined key by key: if one map has no entry at a key, the other's is taken.
 #[derive(Debug, Drop)]
 pub struct Keyed<K: Ord, V> {
     /// The entries.
     pub map: OrderedMap<K, V>,
-    /// Their keys rise.
+    /// The keys of the entries ascend.
     pub ghost ordered: { IsStrictlySortedBy K.cmp (keys_of map) } by { IsStrictlySortedBy-prop K.cmp _ },
 }
 
 impl<K: Ord, V> Keyed<K, V> {
-    /// A map with no entry. It takes no memory.
+    /// An empty map. Allocates nothing.
     pub fn empty(alloc: Global) -> Keyed<K, V>
         ensures { result.map ≡ [] }
     {
@@ -34,7 +34,7 @@ impl<K: Ord, V> Keyed<K, V> {
         }
     }
 
-    /// A map with one entry.
+    /// A map with one entry. If an allocation fails, the pair is dropped.
     pub fn of_one(alloc: Global, key: K, value: V) -> Result<Keyed<K, V>, NoMemory>
     where
         K: Drop,
@@ -46,9 +46,9 @@ impl<K: Ord, V> Keyed<K, V> {
         Ok(Keyed { map })
     }
 
-    /// Puts `value` at `key`, and gives the value that was there. This is no join: what was there may be lost.
+    /// Puts `value` at `key`, and returns the value that was there. This is not a join: what was there may be lost.
     ///
-    /// Where memory is refused, which only a new key can meet, nothing has changed, and the pair is dropped.
+    /// Only a new key needs memory. If an allocation fails, nothing has changed, and the pair is dropped.
     pub fn insert(&mut self, key: K, value: V) -> Result<Option<V>, NoMemory>
     where
         K: Drop,
@@ -62,8 +62,8 @@ impl<K: Ord, V> Keyed<K, V> {
         self.map.insert(key, value)
     }
 
-    /// Takes out the entry at `key`, if there is one, and gives its value. This is no join: what was there is taken
-    /// out. It takes no memory.
+    /// Removes the entry at `key`, if there is one, and returns its value. This is not a join: what was there is taken out. Allocates
+    /// nothing.
     pub fn remove(&mut self, key: &K) -> Option<V>
     where
         K: Drop,
@@ -73,7 +73,7 @@ impl<K: Ord, V> Keyed<K, V> {
         self.map.remove(key)
     }
 
-    /// The value at `key`.
+    /// The value at `key`, if there is one.
     pub fn get(&self, key: &K) -> Option<&V>
         ensures { option_copied result ≡ value_at K.cmp self.now.map key.now }
     {
@@ -82,10 +82,9 @@ impl<K: Ord, V> Keyed<K, V> {
 }
 
 impl<K: Exact, V: Join> Keyed<K, V> {
-    /// Joins `theirs` in at `key`, in place: this copies nothing of what stands there. Where nothing stands there,
-    /// copies of both are put in.
+    /// Joins `theirs` in at `key`, in place, without copying what is there. If nothing is there, copies of `key` and `theirs` are put in.
     ///
-    /// A refusal (out of memory) changes nothing.
+    /// If an allocation fails, nothing changes.
     pub fn join_one(&mut self, key: &K, theirs: &V) -> Result<(), NoMemory>
         ensures joined { OnOk result (IsJoinOf (IsBelowAt V.le) (value_at K.cmp self.old.map key.now) (Some theirs.now)
             (value_at K.cmp self.new.map key.now)) }
@@ -95,10 +94,9 @@ impl<K: Exact, V: Join> Keyed<K, V> {
         self.map.join_one(key, theirs)
     }
 
-    /// Puts `value` in the place of what stands at `key`, and gives that. Where nothing stands there, nothing changes,
-    /// and `value` is dropped.
+    /// Replaces the value at `key` with `value`, and returns the old one. If nothing is there, nothing changes, and `value` is dropped.
     ///
-    /// This is no join: what was there is taken out. It takes no memory.
+    /// This is not a join: what was there is taken out. Allocates nothing.
     pub fn replace(&mut self, key: &K, value: V) -> Option<V>
         ensures before { result ≡ value_at K.cmp self.old.map key.now }
         ensures with { (q : K) → value_at K.cmp self.new.map q ≡ cond (is_eq (K.cmp key.now q))

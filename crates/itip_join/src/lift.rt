@@ -4,12 +4,12 @@ ghost use Rattle.itip_join.specs.Lifted.{IsLiftedBelow-comparable};
 
 use crate::{Chain, Join, NoMemory};
 
-/// A value, or nothing yet: nothing is below every value.
+/// A value, or nothing yet: [`Lift::Nothing`] is below every value.
 #[derive(Debug, Drop)]
 pub enum Lift<T> {
-    /// Nothing was told yet.
+    /// Nothing has been told yet.
     Nothing,
-    /// What was told.
+    /// What has been told.
     Known(T),
 }
 

@@ -1,4 +1,4 @@
-//! How a map takes in an entry, or what another map tells: in place, with what takes it back where memory is refused on the way.
+//! How a map takes in an entry, or what another map tells: in place, and with notes by which this is undone if an allocation fails.
 ghost use Rattle.std.specs.Prelude.{◌≡◌, ◌↔◌, ◌∷◌, [], true, false, not, cond, Some, None, map as each, is_some, IfSome, IsTrue, IfOk};
 ghost use Rattle.std.specs.Prelude.{OnOk, OnErr};
 ghost use Rattle.std.specs.Ordering.{is_eq};
@@ -13,16 +13,16 @@ use std::alloc::Global;
 use std::collections::BTreeMap;
 use std::mem;
 
-/// What takes changes of a map back.
+/// What is needed to undo changes of a map.
 #[derive(Drop)]
 struct Undo<'a, K, V> {
     /// The keys that are new.
     added: Vec<&'a K>,
-    /// What stood at keys before their values grew, in the order of the changes.
+    /// What was at keys before their values grew, in the order of the changes.
     raised: Vec<(&'a K, V)>,
 }
 
-/// Whether each entry of `map` that `guard` does not kill is at most the entry of its key in `other`.
+/// Whether each entry of `map` that `guard` does not kill is at most the entry at its key in `other`.
 pub(crate) fn is_below<K: Exact, V: Join, S: Guard<K, V>>(
     map: &BTreeMap<K, V>,
     other: &BTreeMap<K, V>,
@@ -58,7 +58,7 @@ pub(crate) fn copy_map<K: Exact, V: Join>(
     Ok(copy)
 }
 
-/// Takes out the entries that `guard` kills.
+/// Removes the entries that `guard` kills.
 pub(crate) fn drop_dead<K: Exact, V: Join, S: Guard<K, V>>(map: &mut BTreeMap<K, V>, guard: &S)
     ensures ordered { IsOrdered K.cmp map.new }
     ensures filtered { map.new.entries ≡ kept (S.is_dead guard.now) map.old.entries }
@@ -71,8 +71,8 @@ pub(crate) fn drop_dead<K: Exact, V: Join, S: Guard<K, V>>(map: &mut BTreeMap<K,
     );
 }
 
-/// Joins into `map`, key by key, the entries of `other` that `guard` does not kill. That it needs no memory where these
-/// are at most those of `map` is for its callers to say, which ask first.
+/// Joins into `map`, key by key, the entries of `other` that `guard` does not kill. If an allocation fails, nothing changes. It may
+/// allocate even if these are at most those of `map`: a caller that must not has to check that first.
 pub(crate) fn merge<K: Exact, V: Join, S: Guard<K, V>>(
     alloc: Global,
     map: &mut BTreeMap<K, V>,
@@ -90,7 +90,7 @@ pub(crate) fn merge<K: Exact, V: Join, S: Guard<K, V>>(
     }
 }
 
-/// The entry of a map that has no other.
+/// The entry of a map that has only one.
 fn single<K: Exact, V>(map: &BTreeMap<K, V>) -> Option<(&K, &V)>
     ensures { IfSome result (λ entry. map.now.entries ≡ (entry.0.now, entry.1.now) ∷ []) }
 {
@@ -101,8 +101,8 @@ fn single<K: Exact, V>(map: &BTreeMap<K, V>) -> Option<(&K, &V)>
     }
 }
 
-/// Joins in the entry `theirs` at `key`, unless `guard` kills it. It is all or nothing by itself, so nothing is noted,
-/// and a value at the key is not copied.
+/// Joins in the entry `theirs` at `key`, unless `guard` kills it. This alone is all or nothing, so nothing is noted, and a value at the
+/// key is not copied.
 pub(crate) fn join_one<K: Exact, V: Join, S: Guard<K, V>>(
     map: &mut BTreeMap<K, V>,
     key: &K,
@@ -127,7 +127,7 @@ pub(crate) fn join_one<K: Exact, V: Join, S: Guard<K, V>>(
     Ok(())
 }
 
-/// Joins in the entries of `other` that `guard` does not kill. Where memory is refused, what was changed is changed back.
+/// Joins in the entries of `other` that `guard` does not kill. If an allocation fails, what was changed is changed back.
 fn join_all<K: Exact, V: Join, S: Guard<K, V>>(
     alloc: Global,
     map: &mut BTreeMap<K, V>,
@@ -152,7 +152,7 @@ fn join_all<K: Exact, V: Join, S: Guard<K, V>>(
     Ok(())
 }
 
-/// Joins in the entry `theirs` at `key`, unless `guard` kills it.
+/// Joins in the entry `theirs` at `key`, unless `guard` kills it, and notes how to undo this, even if an allocation fails.
 fn join_entry<'a, K: Exact, V: Join, S: Guard<K, V>>(
     map: &mut BTreeMap<K, V>,
     key: &'a K,
@@ -175,7 +175,7 @@ fn join_entry<'a, K: Exact, V: Join, S: Guard<K, V>>(
     }
 }
 
-/// Joins `theirs` into what stands at `key`.
+/// Joins `theirs` into `mine`, the value at `key`, and notes what that was if it may grow.
 fn raise<'a, K: Exact, V: Join>(
     mine: &mut V,
     key: &'a K,
@@ -192,7 +192,7 @@ fn raise<'a, K: Exact, V: Join>(
     mine.join(theirs)
 }
 
-/// Puts in a copy of `theirs` at a new key.
+/// Adds a copy of `theirs` at a new key, and notes the key.
 fn add<'a, K: Exact, V: Join>(
     map: &mut BTreeMap<K, V>,
     key: &'a K,
@@ -212,7 +212,7 @@ fn add<'a, K: Exact, V: Join>(
     Ok(())
 }
 
-/// Takes changes back, which takes no memory.
+/// Undoes changes. Allocates nothing.
 fn take_back<K: Exact, V: Join>(map: &mut BTreeMap<K, V>, undo: Undo<'_, K, V>)
     requires ordered { IsOrdered K.cmp map.old }
     requires there { CanTakeBack K.cmp (get K.cmp map.old) undo }
@@ -226,7 +226,7 @@ fn take_back<K: Exact, V: Join>(map: &mut BTreeMap<K, V>, undo: Undo<'_, K, V>)
     }
 }
 
-/// Takes out the entries of the keys.
+/// Removes the entries at the keys.
 fn take_out<K: Exact, V: Join>(map: &mut BTreeMap<K, V>, keys: &[&K])
     requires { IsOrdered K.cmp map.old }
     ensures ordered { IsOrdered K.cmp map.new }
@@ -237,7 +237,7 @@ fn take_out<K: Exact, V: Join>(map: &mut BTreeMap<K, V>, keys: &[&K])
     }
 }
 
-/// Puts `value` in the place of what stands at `key`, and gives that. Where nothing stands there, nothing changes, and `value` is dropped.
+/// Replaces the value at `key` with `value`, and returns the old one. If nothing is there, nothing changes, and `value` is dropped.
 pub(crate) fn replace<K: Exact, V: Join>(map: &mut BTreeMap<K, V>, key: &K, value: V) -> Option<V>
     requires { IsOrdered K.cmp map.old }
     ensures ordered { IsOrdered K.cmp map.new }
@@ -249,7 +249,7 @@ pub(crate) fn replace<K: Exact, V: Join>(map: &mut BTreeMap<K, V>, key: &K, valu
     Some(mem::replace(place, value))
 }
 
-/// Puts a value in the place of another.
+/// Replaces the value at a key that has one.
 fn put<K: Exact, V: Join>(map: &mut BTreeMap<K, V>, key: &K, value: V)
     requires ordered { IsOrdered K.cmp map.old }
     requires there { is_some (get K.cmp map.old key.now) ≡ true }

@@ -33,7 +33,7 @@ impl<K: Ord, V> Model for OrderedMap<K, V> {
 }
 
 impl<K: Ord, V> OrderedMap<K, V> {
-    /// A map with no entry. It takes no memory.
+    /// An empty map. Allocates nothing.
     pub fn new(alloc: Global) -> OrderedMap<K, V>
         ensures { result ≡ [] }
     {
@@ -43,30 +43,30 @@ impl<K: Ord, V> OrderedMap<K, V> {
         }
     }
 
-    /// How many entries it has.
+    /// The number of entries.
     pub fn len(&self) -> usize
         ensures { result ≡ length self.now }
     {
         self.map.len()
     }
 
-    /// The value at `key`.
+    /// The value at `key`, if there is one.
     pub fn get(&self, key: &K) -> Option<&V>
         ensures { option_copied result ≡ value_at K.cmp self.now key.now }
     {
         self.map.get(key)
     }
 
-    /// Whether it has no entry.
+    /// Whether the map has no entries.
     pub fn is_empty(&self) -> bool
         ensures { IsTrue result ↔ (length self.now ≡ 0) }
     {
         self.map.is_empty()
     }
 
-    /// Puts `value` at `key`, and gives the value that was there.
+    /// Puts `value` at `key`, and returns the value that was there.
     ///
-    /// Where memory is refused, which only a new key can meet, nothing has changed, and the pair is dropped.
+    /// Only a new key needs memory. If an allocation fails, nothing has changed, and the pair is dropped.
     pub fn insert(&mut self, key: K, value: V) -> Result<Option<V>, NoMemory>
     where
         K: Drop,
@@ -82,7 +82,7 @@ impl<K: Ord, V> OrderedMap<K, V> {
         Ok(self.map.insert(key, value)?)
     }
 
-    /// Takes out the entry at `key`, if there is one, and gives its value.
+    /// Removes the entry at `key`, if there is one, and returns its value.
     pub(crate) fn remove(&mut self, key: &K) -> Option<V>
     where
         K: Drop,
@@ -104,7 +104,7 @@ impl<K: Ord, V> OrderedMap<K, V> {
 }
 
 impl<K: Exact, V: Join> OrderedMap<K, V> {
-    /// Whether each entry that `guard` does not kill is at most the entry of its key in `other`.
+    /// Whether each entry that `guard` does not kill is at most the entry at its key in `other`.
     pub(crate) fn is_below<S: Guard<K, V>>(&self, other: &OrderedMap<K, V>, guard: &S) -> bool
         ensures { IsTrue result ↔ IsMapBelowUnder (S.is_dead guard.now) K.cmp V.le self.now other.now }
     {
@@ -121,8 +121,8 @@ impl<K: Exact, V: Join> OrderedMap<K, V> {
         })
     }
 
-    /// Joins `theirs` in at `key`: this copies nothing of what stands there. Where nothing stands there, copies of both
-    /// are put in. A refusal changes nothing.
+    /// Joins `theirs` in at `key`, without copying what is there. If nothing is there, copies of `key` and `theirs` are put in. If an
+    /// allocation fails, nothing changes.
     pub(crate) fn join_one(&mut self, key: &K, theirs: &V) -> Result<(), NoMemory>
         requires { IsStrictlySortedBy K.cmp (keys_of self.old) }
         ensures ordered { IsStrictlySortedBy K.cmp (keys_of self.new) }
@@ -134,8 +134,8 @@ impl<K: Exact, V: Join> OrderedMap<K, V> {
         merge::join_one(&mut self.map, key, theirs, &())
     }
 
-    /// Puts `value` in the place of what stands at `key`, and gives that. Where nothing stands there, nothing changes,
-    /// and `value` is dropped. It takes no memory.
+    /// Replaces the value at `key` with `value`, and returns the old one. If nothing is there, nothing changes, and `value` is dropped.
+    /// Allocates nothing.
     pub(crate) fn replace(&mut self, key: &K, value: V) -> Option<V>
         requires { IsStrictlySortedBy K.cmp (keys_of self.old) }
         ensures ordered { IsStrictlySortedBy K.cmp (keys_of self.new) }
@@ -146,7 +146,7 @@ impl<K: Exact, V: Join> OrderedMap<K, V> {
         merge::replace(&mut self.map, key, value)
     }
 
-    /// Takes out the entries that `guard` kills.
+    /// Removes the entries that `guard` kills.
     pub(crate) fn drop_dead<S: Guard<K, V>>(&mut self, guard: &S)
         ensures ordered { IsStrictlySortedBy K.cmp (keys_of self.new) }
         ensures filtered { self.new ≡ kept (S.is_dead guard.now) self.old }
@@ -154,7 +154,7 @@ impl<K: Exact, V: Join> OrderedMap<K, V> {
         merge::drop_dead(&mut self.map, guard);
     }
 
-    /// Joins in, key by key, the entries of `other` that `guard` does not kill.
+    /// Joins in, key by key, the entries of `other` that `guard` does not kill. If an allocation fails, nothing changes.
     pub(crate) fn merge<S: Guard<K, V>>(
         &mut self,
         other: &OrderedMap<K, V>,

@@ -1,13 +1,15 @@
 -- A text stays in UTF-8 where its ASCII letters change their case.
-use Rattle.std.proofs.Common.{◌≡◌, sym, ap, refl, subst, ℕ, suc, ◌<◌, ◌≤◌, true, List, [], ◌∷◌, ◌++◌, length, get_or, map, arith, inl, inr}
+use Rattle.std.proofs.Common.{◌≡◌, ◌∙◌, sym, ap, refl, subst, ℕ, suc, ◌<◌, ◌≤◌, true, List, [], ◌∷◌, length, get_or, map, arith, inl, inr}
 use Rattle.std.proofs.Common.{append-nil}
 use Rattle.std.specs.Char.{to_ascii_uppercase, to_ascii_lowercase}
 use Rattle.std.specs.Str.{IsUtf8}
 use Rattle.std.proofs.lemmas.Bool.{and_parts}
 use Rattle.std.proofs.lemmas.Bool.Decides.{leb_tells}
-use Rattle.std.proofs.lemmas.List.{map-append}
+use Rattle.std.proofs.lemmas.List.{length-map, map-append}
 use Rattle.std.proofs.lemmas.Str.{IsUtf8-append, IsUtf8-nil, IsUtf8-encode, IsUtf8-from_ascii, encode_ascii, inside_one}
 use Rattle.std.proofs.lemmas.Str.Ascii.{IsAscii-nil, IsAscii-cons, uppercase_ascii, lowercase_ascii, uppercase_is, lowercase_is}
+use Rattle.smallvec.specs.SmallVec.{SmallVec, with_items}
+use Rattle.smallvec.proofs.SmallVecLemmas.{items-with_items}
 use lib.Utf8.{encode, encodes, scalar, scalars}
 
 module _ (f : ℕ → ℕ) (low : (b : ℕ) → b < 128 → f b < 128) (high : (b : ℕ) → 128 ≤ b → f b ≡ b) where
@@ -47,3 +49,7 @@ raised bs u = text to_ascii_uppercase uppercase_ascii (λ b above. (uppercase_is
 
 pub lowered : (bs : List ℕ) → IsUtf8 bs → IsUtf8 (map to_ascii_lowercase bs)
 lowered bs u = text to_ascii_lowercase lowercase_ascii (λ b above. (lowercase_is b).2 (omega (arith, above))) bs u
+
+-- octets that were changed one by one, in place
+pub changed : (f : ℕ → ℕ) (v : SmallVec ℕ) (now : List ℕ) → now ≡ map f v.items → (with_items v now).items ≡ map f v.items
+changed f v now same = items-with_items v now (ap length same ∙ length-map v.items f) ∙ same

@@ -11,7 +11,7 @@ use Rattle.itip_lines.specs.Cutting.{HasNoLf}
 pub no_feed : (text : List ℕ) → IsFirstByte (is_byte 10) text None → HasNoLf text
 no_feed text none = All-from_get_or (λ b. b ≢ 10) text 0 (λ k within is. none k (omega arith) within (eq-eqb _ _ is))
 
--- the first LF, and what stands before it and behind it
+-- the first LF, and what comes before and after it
 pub first_feed : (text : List ℕ) (at : ℕ) → IsFirstByte (is_byte 10) text (Some at) →
     HasNoLf (take at text) × (text ≡ take at text ++ 10 ∷ drop (at + 1) text)
 first_feed text at found = (

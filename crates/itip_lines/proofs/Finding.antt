@@ -1,16 +1,15 @@
 -- A text is found to be a line.
 use Rattle.std.proofs.Common.{◌≡◌, ◌∙◌, sym, ap, refl, ℕ, ◌+◌, ◌≤◌, ◌<◌, true}
-use Rattle.std.proofs.Common.{List, [], ◌∷◌, ◌++◌, length, length-append, append_assoc, arith, Option, None, Some}
+use Rattle.std.proofs.Common.{List, [], ◌∷◌, ◌++◌, length, length-append, append_assoc, arith}
 use Rattle.std.specs.Char.{to_ascii_uppercase}
 use Rattle.std.specs.List.{list_all}
 use Rattle.std.proofs.lemmas.List.{length-map}
 use Rattle.std.specs.Str.{IsUtf8, str_to_ascii_uppercase}
 use Rattle.itip_lines.specs.Finding.{or_anew, IsFoundIn}
-use Rattle.itip_lines.specs.Lawful.{line_limit, params_text, line_text, IsLawful}
+use Rattle.itip_lines.specs.Lawful.{line_limit, params_text, IsLawful}
 use Rattle.itip_lines.specs.LinePlaces.{IsLineAt}
 use Rattle.itip_lines.specs.Octets.{is_name_octet, is_upper_name_octet}
 use Rattle.itip_lines.specs.Parts.{IsRun, WritesTail}
-use Rattle.itip_lines.specs.Spelling.{Spells}
 use Rattle.itip_lines.specs.Writing.{unfolded_text}
 use Rattle.itip_lines.specs.declared.grammar.Found.{Found}
 use Rattle.itip_lines.specs.declared.line.Line.{Line}
@@ -18,7 +17,7 @@ use Rattle.itip_lines.proofs.LinePlaces.{stands_at}
 use Rattle.itip_lines.proofs.Lines.{spelled_line, lawful_line}
 use Rattle.itip_lines.proofs.Roundtrip.{upper_name_same}
 
--- a text that is written as it stands
+-- a text that is written as it is
 pub as_it_stands : (name tail params value : List ℕ) → list_all is_upper_name_octet name ≡ true → tail ≡ params ++ 58 ∷ value →
     name ++ tail ≡ str_to_ascii_uppercase name ++ (params ++ 58 ∷ value)
 as_it_stands name tail params value upper same = λ i. sym (upper_name_same name upper) i ++ same i

@@ -1,4 +1,4 @@
--- What is written is in pieces of at most 75 octets that cut no character, each as long as it can be.
+-- What is written is in pieces of at most 75 octets that split no character, each as long as it can be.
 use Rattle.std.proofs.Common.{◌≡◌, ◌∙◌, sym, ap, refl, suc, ℕ, ◌+◌, ◌/◌, ◌%◌, ◌≤◌, ◌<◌, true, false, cond, List, [], ◌∷◌, ◌++◌, length}
 use Rattle.std.proofs.Common.{arith, subst, inl, inr, append_assoc, length-append}
 use Rattle.std.specs.Prelude.{nat_lt}

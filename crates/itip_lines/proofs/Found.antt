@@ -14,7 +14,7 @@ use Rattle.itip_lines.proofs.Values.{quoted_run, quote_clash}
 use Rattle.itip_lines.proofs.ParamLists.{name_run}
 use Rattle.itip_lines.proofs.Roundtrip.{name_spells, plain_without, param_then}
 
--- ---- behind the values of a parameter
+-- ---- after the values of a parameter
 
 past_quoted : (value rest : List ℕ) → list_all is_quotable_octet value ≡ true → behind_values true (value ++ rest) ≡ behind_values true rest
 past_quoted [] rest h = refl
@@ -55,7 +55,7 @@ pub all_stand : (name : List ℕ) (ps : List Param) (text : List ℕ) → AllByR
     StandsFor name ps text
 all_stand name ps text h e = record { left = ps; each = h; text_is = e; has = refl; value = refl }
 
--- the parameter that stands first, cut into its name and what is behind that
+-- the first parameter, cut into its name and what follows it
 pub record FirstParam (name : List ℕ) (ps : List Param) (spelled behind : List ℕ) : Type 0 where
   pub first : Param
   pub others : List Param

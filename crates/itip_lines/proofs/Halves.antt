@@ -21,7 +21,7 @@ upper_plain b h = grind (arith, nat_tests)
 abbrev before : List ℕ → Halves → Halves
 before bs h = record { front = bs ++ h.front; value = h.value }
 
--- no ":" without quotes stands in the text, and quotes that begin in it end in it
+-- the text has no ":" outside quotes, and quotes that begin in it end in it
 abbrev IsQuiet : List ℕ → Type 0
 IsQuiet text = (rest : List ℕ) → halves false (text ++ rest) ≡ before text (halves false rest)
 
@@ -90,7 +90,7 @@ params_quiet : (ps : List Param) → AllByRecursion IsLawfulParam ps → IsQuiet
 params_quiet [] h = λ rest. refl
 params_quiet (p ∷ ps) h = both (param_text p) (params_text ps) (param_quiet p h.0) (params_quiet ps h.1)
 
--- the value begins behind the parameters
+-- the value begins after the parameters
 pub halves_are : (ps : List Param) (value : List ℕ) → AllByRecursion IsLawfulParam ps →
     halves false (params_text ps ++ 58 ∷ value) ≡ record { front = params_text ps; value = value }
 halves_are ps value h =

@@ -70,7 +70,7 @@ are_joined octets texts h e =
       octets_are = e ∙ ap joined (sym same);
     }
 
--- so many LF as texts
+-- as many LF as texts
 with_octet_length : (b : ℕ) (texts : List (List ℕ)) → length (with_octet b texts) ≡ length texts
 with_octet_length b [] = refl
 with_octet_length b (text ∷ texts) = refl
@@ -149,7 +149,7 @@ value_unbroken (b ∷ bs) h =
     let parts = and_parts _ _ h in
     rw ((value_no_break b parts.0).0) (value_unbroken bs parts.1)
 
--- a value of a line can stand so
+-- a value of a line can be joined
 pub one_value : (text : List ℕ) → list_all is_value_octet text ≡ true → IsUtf8 text → IsOneLine text
 one_value text octets utf8 = record { unbroken = value_unbroken text octets; utf8 = utf8 }
 

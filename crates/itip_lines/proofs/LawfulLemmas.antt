@@ -1,4 +1,4 @@
--- What of a lawful line is lawful again.
+-- What is lawful again of a lawful line.
 use Rattle.std.proofs.Common.{ℕ, List, [], ◌∷◌, ◌++◌, arith, length-append}
 use Rattle.itip_lines.specs.Lawful.{params_text, IsLawful}
 use Rattle.itip_lines.specs.declared.line.Param.{Param}

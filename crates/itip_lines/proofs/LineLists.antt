@@ -1,6 +1,6 @@
--- Lines that stand as texts.
+-- Lines that are stored as texts.
 use Rattle.std.proofs.Common.{◌≡◌, ◌∙◌, sym, ap, refl, ℕ, ◌+◌, ◌<◌, Bool, false, List, [], ◌∷◌, ◌++◌}
-use Rattle.std.proofs.Common.{take, get_or, map, length, append_assoc, subst, arith}
+use Rattle.std.proofs.Common.{take, get_or, map, length, subst, arith}
 use Rattle.std.proofs.Common.{append-nil}
 use Rattle.std.specs.Prelude.{◌||◌, OnOk, OnErr, is_ok, Result, Ok, Err, cond}
 use Rattle.std.proofs.lemmas.List.{map-append, take_more}
@@ -89,7 +89,7 @@ pub count_is : (texts : List (List ℕ)) (are : AreLineTexts texts) → length t
 count_is [] are = refl
 count_is (t ∷ ts) are = omega (arith, count_is ts are.1)
 
--- and lines stand as their texts
+-- and lines are stored as their texts
 pub texts_of_lines : (texts : List (List ℕ)) (are : AreLineTexts texts) → texts ≡ map unfolded_text (lines_in texts are)
 unfolding unfolded_text
 texts_of_lines [] are = refl

@@ -1,6 +1,6 @@
--- Where the parts of a line stand in its octets.
-use Rattle.std.proofs.Common.{◌≡◌, ◌∙◌, sym, ap, refl, ℕ, ◌+◌, ◌-◌, ◌≤◌, List}
-use Rattle.std.proofs.Common.{[], ◌∷◌, ◌++◌, take, drop, length, length-append, append_assoc, arith, subst}
+-- Where the parts of a line are in its octets.
+use Rattle.std.proofs.Common.{◌≡◌, ◌∙◌, sym, ap, ℕ, ◌+◌, ◌-◌, ◌≤◌, List}
+use Rattle.std.proofs.Common.{[], ◌∷◌, ◌++◌, take, drop, length, length-append, arith, subst}
 use Rattle.std.proofs.lemmas.List.{take_at, drop_at}
 use Rattle.std.specs.Str.{str_to_ascii_uppercase}
 use Rattle.itip_lines.specs.Lawful.{line_limit, params_text}
@@ -24,7 +24,7 @@ line_is text is line e =
     same_line (line_in text is) line (ap name_in e ∙ name_of_line line) (ap params_of e ∙ params_of_line line)
     (ap value_in e ∙ value_of_line line)
 
--- a line stands so in its octets
+-- where a line is in its octets
 pub stands_at : (text : List ℕ) (line : Line) (name value : ℕ) → text ≡ unfolded_text line → name ≡ length line.name →
     value ≡ length line.name + length (params_text line.params) + 1 → IsLineAt text name value
 stands_at text line name value e n v = record {
@@ -35,7 +35,7 @@ stands_at text line name value e n v = record {
       ∙ ap (λ (ps : List Param). length (name_in text) + length (params_text ps) + 1) (sym (ap params_of e ∙ params_of_line line));
 }
 
--- the octets, cut where a line stands in them
+-- the octets, cut where the parts of a line are in them
 pub record AreParts (text : List ℕ) (name value : ℕ) : Type 0 where
   pub begins : name ≤ length text
   pub parted : name + 1 ≤ value
@@ -64,7 +64,7 @@ parts_of text name value at =
       value_is = ap (λ (t : List ℕ). drop 1 t) behind;
     }
 
--- its parts begin within the most octets of a line
+-- its parts begin within the maximum length of a line
 pub places_short : (text : List ℕ) (name value : ℕ) → IsLineAt text name value → (name ≤ line_limit) × (value ≤ line_limit)
 places_short text name value at =
     let n : List ℕ = name_in text in

@@ -1,4 +1,4 @@
--- How the classes of octets lie to one another.
+-- How the classes of octets relate to one another.
 use Rattle.std.proofs.Common.{◌≡◌, refl, ℕ, ◌≤◌, ◌<◌, true, false, arith}
 use Rattle.std.specs.Prelude.{◌==◌}
 use Rattle.std.specs.Char.{to_ascii_uppercase}

@@ -9,7 +9,7 @@ use lib.Utf8.{encode, encodes, scalars}
 use Rattle.itip_lines.specs.Folding.{IsFoldedPiece, IsFull, AreFoldedPieces}
 use Rattle.itip_lines.proofs.Utf8Parts.{utf8_behind}
 
--- what stands behind a text in UTF-8
+-- what follows a text in UTF-8
 utf8_after : (a b : List ℕ) → IsUtf8 (a ++ b) → IsUtf8 a → IsUtf8 b
 utf8_after a b u v =
     subst IsUtf8 (drop_at a b (length a) refl)
@@ -23,7 +23,7 @@ rest_utf8 text (p ∷ (q ∷ qs)) h =
     subst IsUtf8 (sym h.2) (IsUtf8-append h.0 h.1 (utf8_behind 32 h.0 (subst IsUtf8 h.3 h.4.utf8) (omega arith))
     (rest_utf8 h.1 (q ∷ qs) h.6))
 
--- no more characters fit behind a full piece
+-- no more characters fit after a full piece
 over_full : (piece rest g behind : List ℕ) → IsFull piece rest → rest ≡ g ++ behind → IsUtf8 g → 0 < length g → 75 < length piece + length g
 over_full piece rest g behind full e u some = begun u.0 u.1.0 u.1.1
   where
@@ -34,7 +34,7 @@ over_full piece rest g behind full e u some = begun u.0 u.1.0 u.1.1
         append_assoc (encode c) (encodes ds) behind in
         omega (arith, full.over c (encodes ds ++ behind) (and_parts _ _ k).0 first, ap length same, length-append (encode c) (encodes ds))
 
--- of two fronts of one text one begins with the other
+-- of two prefixes of one text one begins with the other
 fronts : (a r b s : List ℕ) → a ++ r ≡ b ++ s → ((g : List ℕ) × (b ≡ a ++ g) × (r ≡ g ++ s)) ⊎ ((g : List ℕ) × (a ≡ b ++ g) × (s ≡ g ++ r))
 fronts [] r b s e = inl (b, refl, e)
 fronts (x ∷ a) r [] s e = inr (x ∷ a, refl, sym e)
@@ -51,7 +51,7 @@ fronts (x ∷ a) r (y ∷ b) s e = more (first_is x y (a ++ r) (b ++ s) e) (fron
     more h (inl k) = inl (k.0, ap (λ z. z ∷ b) (sym h) ∙ ap (λ zs. x ∷ zs) k.1, k.2)
     more h (inr k) = inr (k.0, ap (λ z. z ∷ a) h ∙ ap (λ zs. y ∷ zs) k.1, k.2)
 
--- a full piece is no front of another piece
+-- a full piece is no prefix of another piece
 no_longer : (lead a r b s g : List ℕ) → IsFoldedPiece (lead ++ a) → IsFull (lead ++ a) r → IsFoldedPiece (lead ++ b) → b ≡ a ++ g →
     r ≡ g ++ s → g ≡ []
 no_longer lead a r b s [] first full second e f = refl

@@ -18,7 +18,7 @@ use Rattle.itip_lines.proofs.Written.{params_more}
 pub same_param : (p q : Param) → p.name ≡ q.name → p.values ≡ q.values → p ≡ q
 same_param p q e f = λ i. record { name = e i; values = f i }
 
--- a name with "=" behind it
+-- a name followed by "="
 pub name_run : (text spelled after : List ℕ) → IsTrue (list_all is_name_octet spelled) → text ≡ spelled ++ 61 ∷ after →
     IsRun is_name_octet text spelled (61 ∷ after)
 name_run text spelled after h e = record { whole = e; passes = h; stops = refl }
@@ -89,7 +89,7 @@ param_wrote text spelled behind after rest old at new run equals some named w = 
       ∙ ap (λ t. old ++ 59 ∷ t) (append_assoc (str_to_ascii_uppercase spelled) (61 ∷ []) (values_text w.values));
 }
 
--- what stands behind a parameter, in a tail
+-- what follows a parameter, in a tail
 pub tail_ends : (text : List ℕ) (ps : List Param) (value : List ℕ) → IsTail text ps value → EndsParam text
 tail_ends text [] value h = rw h.0 refl
 tail_ends text (p ∷ ps) value h = rw h.2 refl
@@ -127,7 +127,7 @@ more_params text done rest after param behind has semicolon reads = record {
           subst (λ (t : List ℕ). IsTail t qs value) (sym one.1) h.4,
         )
 
--- no parameter stands where one has to
+-- there is no parameter where one has to be
 pub lacks_next_param : (text : List ℕ) (done : List Param) (rest after : List ℕ) → HasParams text done rest → rest ≡ 59 ∷ after →
     LacksParam after → LacksTail text
 lacks_next_param text done rest after has semicolon lacks = λ ps value h. none value (has.back ps value h)

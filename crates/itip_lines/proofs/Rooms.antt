@@ -46,7 +46,7 @@ folded_longer used (b ∷ bs) =
     one_longer (fits used b) b (length bs) (folded (used + 1) bs) (folded 2 bs) (folded_longer (used + 1) bs) (folded_longer 2 bs) in
     omega (arith, more)
 
--- no longer than with more behind it
+-- no longer than with more after it
 folded_front : (used : ℕ) (bs more : List ℕ) → length (folded used bs) ≤ length (folded used (bs ++ more))
 folded_front used [] more = folded_some used more
 folded_front used (b ∷ bs) more =
@@ -85,12 +85,12 @@ param_long name value =
 pub room_less : {Z : Type 0} (v : Vec ℕ Z) (bs more : List ℕ) → length bs ≤ length more → HasRoomFor v more → HasRoomFor v bs
 room_less v bs more less room = omega (arith, less, room)
 
--- for the front of a text
+-- for a prefix of a text
 pub room_front : {Z : Type 0} (v : Vec ℕ Z) (used : ℕ) (bs more : List ℕ) → HasRoomFor v (folded used (bs ++ more)) →
     HasRoomFor v (folded used bs)
 room_front v used bs more room = room_less v (folded used bs) (folded used (bs ++ more)) (folded_front used bs more) room
 
--- for the rest, behind the front
+-- for the rest, after the prefix
 pub room_behind : {Z : Type 0} (old new : Vec ℕ Z) (used : ℕ) (bs more : List ℕ) (now : ℕ) → Writes old.items used bs new.items now →
     KeepsRoom old new → HasRoomFor old (folded used (bs ++ more)) → HasRoomFor new (folded now more)
 room_behind old new used bs more now wrote keeps room =
@@ -101,13 +101,13 @@ room_behind old new used bs more now wrote keeps room =
     let new_long = new.ok.0 in
     omega (arith, same, before, behind, old_long, new_long, keeps, room)
 
--- for the last break, behind the text
+-- for the last break, after the text
 pub room_ended : {Z : Type 0} (old new : Vec ℕ Z) (used : ℕ) (bs : List ℕ) (now : ℕ) → Writes old.items used bs new.items now →
     KeepsRoom old new → HasRoomFor old (folded used bs) → vec_len new + 2 ≤ vec_capacity new
 room_ended old new used bs now wrote keeps room =
     room_behind old new used bs [] now wrote keeps (subst (λ (text : List ℕ). HasRoomFor old (folded used text)) (sym (append-nil bs)) room)
 
--- for one octet of a text, behind those before it
+-- for one octet of a text, after those before it
 pub room_at : {Z : Type 0} (old new : Vec ℕ Z) (used : ℕ) (bs : List ℕ) (i now : ℕ) → i < length bs →
     Writes old.items used (take i bs) new.items now → KeepsRoom old new
     → HasRoomFor old (folded used bs) → HasRoomFor new (folded now (get_or bs i 0 ∷ []))
@@ -119,7 +119,7 @@ room_at old new used bs i now less wrote keeps room =
     (room_behind old new used (take i bs) (drop i bs) now wrote keeps
     (subst (λ (text : List ℕ). HasRoomFor old (folded used text)) whole room)))
 
--- ---- for the parts of a line: its colon, behind name and parameters, and its value
+-- ---- for the parts of a line: its colon, after name and parameters, and its value
 
 pub colon_room : {Z : Type 0} (old m n : Vec ℕ Z) (name : List ℕ) (i : ℕ) (params : List ℕ) (j : ℕ) (value : List ℕ)
     → Writes old.items 0 name m.items i → KeepsRoom old m → Writes m.items i params n.items j → KeepsRoom m n

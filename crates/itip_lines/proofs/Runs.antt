@@ -1,4 +1,4 @@
--- The longest front of a text that passes a test.
+-- The longest prefix of a text that passes a test.
 use Rattle.std.proofs.Common.{◌≡◌, ◌∙◌, sym, ap, refl, suc, ℕ, ◌+◌, ◌<◌, Bool, true, false, cond, List, [], ◌∷◌, ◌++◌, length}
 use Rattle.std.proofs.Common.{take, drop, arith, subst}
 use Rattle.std.specs.List.{list_all, prefix_len}

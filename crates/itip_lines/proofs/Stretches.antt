@@ -121,7 +121,7 @@ blank_octet b h = elim (eqb_tells b 32) [
   ]
 ]
 
--- a fold: the stretch goes on the line, and what follows the blank goes on after it
+-- a fold: the stretch continues the line, and so does what follows the blank
 pub texts_onto_fold : (at : ℕ) (line : List ℕ) (here : ℕ) (text s behind more : List ℕ) → stretches_of text ≡ s ∷ stretches_of behind →
     BeginsWithBlank behind more → texts_onto at line here text ≡ texts_onto at (line ++ s) (here + 1) more
 unfolding texts_onto
@@ -136,7 +136,7 @@ pub lines_onto_fold : (line text s behind more : List ℕ) → stretches_of text
 lines_onto_fold line text s behind more e blank = sym (texts_plain 0 line 0 text) ∙
     ap texts_of (texts_onto_fold 0 line 0 text s behind more e blank) ∙ texts_plain 0 (line ++ s) (0 + 1) more
 
--- a break: the line ends with the stretch, and the next one begins behind the break
+-- a break: the line ends with the stretch, and the next one begins after the break
 pub texts_onto_break : (at : ℕ) (line : List ℕ) (here : ℕ) (text s behind : List ℕ) → stretches_of text ≡ s ∷ stretches_of behind →
     LacksBlank behind → texts_onto at line here text ≡ text_at at (line ++ s) ∷ texts_onto (here + 1) [] (here + 1) behind
 unfolding texts_onto

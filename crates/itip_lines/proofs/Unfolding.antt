@@ -33,7 +33,7 @@ crlf_stretch : (rest : List ℕ) → stretches_of (13 ∷ (10 ∷ rest)) ≡ [] 
 crlf_stretch rest = stretches_of_break (13 ∷ (10 ∷ rest)) (13 ∷ []) [] rest
     (All-cons (λ x. x ≢ 10) 13 [] (λ e. absurd (omega arith)) (All-nil (λ x. x ≢ 10))) refl (inl refl)
 
--- an octet of a folded line, and the octets behind it
+-- an octet of a folded line, and the octets after it
 one_more : (line : List ℕ) (b n : ℕ) (bs rest : List ℕ) → is_value_octet b ≡ true →
     lines_onto (line ++ b ∷ []) (folded n bs ++ rest) ≡ (line ++ b ∷ [] ++ bs) ∷ lines_onto [] rest →
     lines_onto line (b ∷ (folded n bs ++ rest)) ≡ (line ++ (b ∷ bs)) ∷ lines_onto [] rest

@@ -1,4 +1,4 @@
--- Where a text in UTF-8 is cut at ASCII, both parts are UTF-8.
+-- If a text in UTF-8 is cut at ASCII, both parts are UTF-8.
 use Rattle.std.proofs.Common.{◌≡◌, sym, refl, ℕ, ◌<◌, false, List, [], ◌∷◌, ◌++◌, length, arith, subst, length-append}
 use Rattle.std.specs.Prelude.{IsTrue}
 use Rattle.std.specs.Str.{IsUtf8, IsAscii}
@@ -29,7 +29,7 @@ utf8_from a b c u h =
     (IsCharBoundary-before_ascii (a ++ b ∷ c) (length a) (omega (arith, length-append a (b ∷ c)))
     (subst (λ (x : ℕ). x < 128) (sym (get_or_at a b c 0 (length a) refl)) h)))
 
--- the part behind an ASCII octet
+-- the part after an ASCII octet
 pub utf8_behind : (b : ℕ) (c : List ℕ) → IsUtf8 (b ∷ c) → b < 128 → IsUtf8 c
 utf8_behind b c u h = IsUtf8-drop (b ∷ c) 1 u (IsCharBoundary-after_ascii (b ∷ c) 0 u (omega arith) h)
 

@@ -14,7 +14,7 @@ pub param_ends_value : (rest : List ℕ) → EndsParam rest → EndsValue rest
 param_ends_value [] e = e
 param_ends_value (b ∷ rest) e = rw e refl
 
--- `done` are the first values of the text, with the commas behind them, and `rest` is left
+-- `done` are the first values of the text, with the commas after them, and `rest` is left
 pub record HasValues (text : List ℕ) (done : List (List ℕ)) (rest : List ℕ) : Type 0 where
   pub onward : (vs : List (List ℕ)) (out : List ℕ) → ValuesThen rest vs out → ValuesThen text (done ++ vs) out
   pub back : (vs : List (List ℕ)) (out : List ℕ) → ValuesThen text vs out → EndsParam out → (us : List (List ℕ)) × (vs ≡ done ++ us) ×
@@ -29,7 +29,7 @@ pub cut_shorter : (text value rest : List ℕ) → CutsValue text value rest →
 cut_shorter text value rest (quoted q e) = omega (arith, ap length e, length-append value (34 ∷ rest))
 cut_shorter text value rest (plain r n) = omega (arith, ap length r.whole, length-append value rest)
 
--- one more value, with a comma behind it
+-- one more value, with a comma after it
 pub more_values : (text : List ℕ) (done : List (List ℕ)) (rest value behind more : List ℕ) → HasValues text done rest →
     CutsValue rest value behind → behind ≡ 44 ∷ more → HasValues text (done ++ value ∷ []) more
 more_values text done rest value behind more has cut comma = record {
@@ -68,7 +68,7 @@ all_values text done rest value behind has cut ends = record {
   shorter = omega (arith, has.shorter, cut_shorter rest value behind cut);
 }
 
--- no value stands where one has to
+-- there is no value where one has to be
 pub lacks_next : (text : List ℕ) (done : List (List ℕ)) (rest : List ℕ) → HasValues text done rest → LacksValue rest → LacksValues text
 lacks_next text done rest has lacks = λ vs out h ends. none out (has.back vs out h ends) ends
   where
@@ -91,7 +91,7 @@ lacks_end text done rest value behind has cut no_comma no_end = λ vs out h ends
 
 -- ---- the same where the values are written on the way
 
--- values with a comma behind each
+-- values, each followed by a comma
 abbrev pub closed_text : List (List ℕ) → List ℕ
 closed_text [] = []
 closed_text (v ∷ vs) = value_text v ++ 44 ∷ closed_text vs
@@ -109,7 +109,7 @@ closed_last (w ∷ (x ∷ vs)) v =
     ap (λ t. value_text w ++ 44 ∷ t) (closed_last (x ∷ vs) v) ∙
     sym (append_assoc (value_text w) (44 ∷ closed_text (x ∷ vs)) (value_text v))
 
--- the first values of the text are read, and stand with a comma behind each behind what stood there
+-- the first values of the text are read and appended, each followed by a comma
 pub record HasWritten (text rest old new : List ℕ) : Type 0 where
   pub done : List (List ℕ)
   pub has : HasValues text done rest

@@ -20,7 +20,7 @@ ends_plain : (rest : List ℕ) → EndsValue rest → begins is_plain_octet rest
 ends_plain [] e = refl
 ends_plain (b ∷ rest) e = separator_not_plain b e
 
--- what stands before the closing quote
+-- what comes before the closing quote
 pub quoted_run : (inside value rest : List ℕ) → IsTrue (list_all is_quotable_octet value) → inside ≡ value ++ 34 ∷ rest →
     IsRun is_quotable_octet inside value (34 ∷ rest)
 quoted_run inside value rest q e = record { whole = e; passes = q; stops = refl }

@@ -54,7 +54,7 @@ at_most_three b = by (nat_lt b 192) (nat_lt b 224) (nat_lt b 240)
     by false false true = omega arith
     by false false false = omega arith
 
--- what surely ends on the piece is written as it stands
+-- what is sure to fit on the piece is written as it is
 pub writes_whole : (old : List ℕ) (used : ℕ) (bs : List ℕ) (now : ℕ) → now ≡ used + length bs → now + 3 ≤ 75 →
     Writes old used bs (old ++ bs) now
 writes_whole old used [] now e h =

@@ -2,7 +2,7 @@
 use Rattle.std.specs.Prelude.{◌≡◌, ◌≢◌, ℕ, ◌+◌, Bool, true, false, cond, ◌||◌, ◌==◌, List, [], ◌∷◌, ◌++◌, map}
 use Rattle.std.specs.List.{All, AllByRecursion, filter}
 
--- a line break is LF (10), or CR (13) with LF directly behind it
+-- a line break is LF (10), or CR (13) directly followed by LF
 pub data Break : Type 0 where
   lf : Break
   crlf : Break
@@ -19,12 +19,12 @@ pub record Piece : Type 0 where
 abbrev pub HasNoLf : List ℕ → Type 0
 HasNoLf text = All (λ b. b ≢ 10) text
 
--- no LF stands in the stretch, and none that a bare LF ends has CR before that LF
+-- the stretch has no LF, and if a bare LF ends it, no CR before that LF
 pub record IsPiece (piece : Piece) : Type 0 where
   pub no_lf : HasNoLf piece.text
   pub bare : piece.end ≡ lf → (front : List ℕ) → piece.text ≢ front ++ 13 ∷ []
 
--- the pieces in a row, and what stands behind the last break
+-- the pieces in a row, and what follows the last break
 abbrev pub joined : List Piece → List ℕ → List ℕ
 joined [] last = last
 joined (p ∷ ps) last = p.text ++ (break_bytes p.end ++ joined ps last)
@@ -42,13 +42,13 @@ stretches pieces last = map (λ p. p.text) pieces ++ last ∷ []
 abbrev pub is_blank : ℕ → Bool
 is_blank b = b == 32 || b == 9
 
--- A break whose next stretch begins with a blank is a fold: the stretch without that blank goes on the line.
+-- A break is a fold if the next stretch begins with a blank: without that blank, the stretch continues the line.
 abbrev pub unfolded_onto : List ℕ → List (List ℕ) → List (List ℕ)
 unfolded_onto line [] = line ∷ []
 unfolded_onto line ([] ∷ cs) = line ∷ unfolded_onto [] cs
 unfolded_onto line ((b ∷ c) ∷ cs) = cond (is_blank b) (unfolded_onto (line ++ c) cs) (line ∷ unfolded_onto (b ∷ c) cs)
 
--- the unfolded lines of the stretches of a text; before the first stretch no break stands
+-- the unfolded lines of the stretches of a text; no break precedes the first stretch
 abbrev pub unfolded : List (List ℕ) → List (List ℕ)
 unfolded [] = []
 unfolded (c ∷ cs) = unfolded_onto c cs
@@ -64,7 +64,7 @@ lines_of pieces last = without_empty (unfolded (stretches pieces last))
 
 -- ---- the same lines, each with the number of its first stretch
 
--- A text, and the number of the stretch in which it begins. Each stretch is one physical line, and they count from 1.
+-- A text, and the number of the stretch in which it begins. Each stretch is one physical line, numbered from 1.
 pub record NumberedText : Type 0 where
   pub number : ℕ
   pub text : List ℕ
@@ -94,6 +94,6 @@ with_octets ts = filter (λ t. has_octets t.text) ts
 abbrev pub numbered_lines_of : List Piece → List ℕ → List NumberedText
 numbered_lines_of pieces last = with_octets (numbered (stretches pieces last))
 
--- the texts alone
+-- the texts without their numbers
 abbrev pub texts_of : List NumberedText → List (List ℕ)
 texts_of ts = map (λ t. t.text) ts

@@ -1,4 +1,4 @@
--- What a line keeps of itself, and its octets without folds (RFC 5545 3.1).
+-- What holds of every line, and its octets without folds (RFC 5545 3.1).
 use Rattle.std.specs.Prelude.{ℕ, ◌<◌, ◌≤◌, cond, IsTrue, List, [], ◌∷◌, ◌++◌, length}
 use Rattle.std.specs.List.{list_all, list_any, AllByRecursion}
 use Rattle.std.specs.Str.{IsUtf8}
@@ -6,15 +6,15 @@ use Rattle.std.proofs.Props.{props}
 use Rattle.itip_lines.specs.Octets.{is_upper_name_octet, is_value_octet, is_quotable_octet, is_separator}
 use Rattle.itip_lines.specs.declared.line.Param.{Param}
 
--- the most octets of an unfolded line (our own limit)
+-- the maximum length of an unfolded line, in octets (our own limit)
 abbrev pub line_limit : ℕ
 line_limit = 65536
 
--- a value of a parameter, in quotes exactly where it has a separator
+-- a parameter value, in quotes exactly if it has a separator
 abbrev pub value_text : List ℕ → List ℕ
 value_text value = cond (list_any is_separator value) (34 ∷ (value ++ 34 ∷ [])) value
 
--- values with commas between
+-- values with commas between them
 abbrev pub values_text : List (List ℕ) → List ℕ
 values_text [] = []
 values_text (v ∷ []) = value_text v
@@ -36,7 +36,7 @@ pub record IsName (name : List ℕ) : Type 0 where
   pub some : 0 < length name
   pub upper : IsTrue (list_all is_upper_name_octet name)
 
--- a value of a parameter
+-- a parameter value
 pub record IsParamValue (value : List ℕ) : Type 0 where
   pub octets : IsTrue (list_all is_quotable_octet value)
   pub utf8 : IsUtf8 value

@@ -1,4 +1,4 @@
--- Where the parts of a line stand in its octets without folds (our own form).
+-- Where the parts of a line are in its octets without folds (our own form).
 use Rattle.std.specs.Prelude.{◌≡◌, ℕ, ◌+◌, List, length}
 use Rattle.std.proofs.Props.{props}
 use Rattle.itip_lines.specs.Lawful.{params_text}
@@ -9,7 +9,7 @@ use Rattle.itip_lines.specs.declared.line.Line.{Line}
 abbrev pub line_in : (text : List ℕ) → IsLineText text → Line
 line_in text is = record { name = name_in text; params = params_of text; value = value_in text; lawful = is.lawful }
 
--- the text is a line: its name has so many octets, and its value begins there
+-- the text is a line whose name has `name` octets and whose value begins at offset `value`
 pub record IsLineAt (text : List ℕ) (name value : ℕ) : Type 0 where
   pub is_line : IsLineText text
   pub name_ends : name ≡ length (name_in text)

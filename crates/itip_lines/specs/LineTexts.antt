@@ -13,7 +13,7 @@ use Rattle.itip_lines.specs.declared.line.Param.{Param}
 abbrev pub has_line : List ℕ → List Line → Bool
 has_line name lines = list_any (λ (line : Line). same_text line.name name) lines
 
--- what stands before the first ":" that no quotes enclose, and behind it
+-- what comes before the first ":" outside quotes, and what comes after it
 pub record Halves : Type 0 where
   pub front : List ℕ
   pub value : List ℕ

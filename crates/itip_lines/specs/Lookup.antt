@@ -1,4 +1,4 @@
--- What the parameters of a line have under a name: the first value of the first parameter of that name (RFC 5545 3.2).
+-- What the parameters of a line have under a name: the first value of the first parameter with that name (RFC 5545 3.2).
 use Rattle.std.specs.Prelude.{◌≡◌, ℕ, nat_eq, Bool, true, false, cond, not, ◌&&◌, ◌==◌, List, [], ◌∷◌, ◌++◌}
 use Rattle.std.specs.Cmp.Lexicographic.{pointwise}
 use Rattle.std.specs.List.{AllByRecursion, list_any}
@@ -17,19 +17,19 @@ abbrev pub first_value : List (List ℕ) → List ℕ
 first_value [] = []
 first_value (value ∷ values) = value
 
--- the first value of the first parameter of this name, empty where there is none
+-- the first value of the first parameter with this name, empty if there is none
 abbrev pub param_value : List ℕ → List Param → List ℕ
 param_value name [] = []
 param_value name (param ∷ params) = cond (same_text param.name name) (first_value param.values) (param_value name params)
 
 -- ---- the same in the text of the parameters (our own form)
 
--- the text from its first ";" on that no quotes enclose
+-- the text from its first ";" outside quotes on
 abbrev pub behind_values : Bool → List ℕ → List ℕ
 behind_values quoted [] = []
 behind_values quoted (b ∷ bs) = cond (not quoted && (b == 59)) (b ∷ bs) (behind_values (cond (b == 34) (not quoted) quoted) bs)
 
--- what the parameters have under the name, those have of which the text is
+-- the text is that of parameters that have under the name what `params` have
 pub record StandsFor (name : List ℕ) (params : List Param) (text : List ℕ) : Type 0 where
   pub left : List Param
   pub each : AllByRecursion IsLawfulParam left
@@ -37,7 +37,7 @@ pub record StandsFor (name : List ℕ) (params : List Param) (text : List ℕ) :
   pub has : has_param name params ≡ has_param name left
   pub value : param_value name params ≡ param_value name left
 
--- the text begins with this value, which ends with the text or at a mark
+-- the text begins with this value, which ends at the end of the text or at a mark
 pub record BeginsWithValue (value text : List ℕ) : Type 0 where
   pub rest : List ℕ
   pub lawful : IsParamValue value

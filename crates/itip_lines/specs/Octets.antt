@@ -6,11 +6,11 @@ use Rattle.std.specs.Char.{is_ascii_uppercase, is_ascii_lowercase, is_ascii_digi
 abbrev pub is_upper_name_octet : ℕ → Bool
 is_upper_name_octet b = is_ascii_uppercase b || is_ascii_digit b || b == 45
 
--- the same and a to z: a name as it may stand in a text
+-- the same and a to z: a name as it may appear in a text
 abbrev pub is_name_octet : ℕ → Bool
 is_name_octet b = is_upper_name_octet b || is_ascii_lowercase b
 
--- every control but HTAB
+-- every control character except HTAB
 abbrev pub is_control_octet : ℕ → Bool
 is_control_octet b = nat_le b 8 || (nat_le 10 b && nat_le b 31) || b == 127
 
@@ -18,14 +18,14 @@ is_control_octet b = nat_le b 8 || (nat_le 10 b && nat_le b 31) || b == 127
 abbrev pub is_value_octet : ℕ → Bool
 is_value_octet b = not (is_control_octet b)
 
--- what a parameter's value may have between quotes: all but the quote
+-- what a parameter value may have between quotes: the same except the quote
 abbrev pub is_quotable_octet : ℕ → Bool
 is_quotable_octet b = is_value_octet b && not (b == 34)
 
--- ";", ":" and ",", for which a parameter's value needs quotes
+-- ";", ":" and ",", for which a parameter value needs quotes
 abbrev pub is_separator : ℕ → Bool
 is_separator b = b == 59 || b == 58 || b == 44
 
--- what a parameter's value may have without quotes
+-- what a parameter value may have without quotes
 abbrev pub is_plain_octet : ℕ → Bool
 is_plain_octet b = is_quotable_octet b && not (is_separator b)

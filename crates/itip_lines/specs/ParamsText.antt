@@ -1,16 +1,16 @@
--- The parameters of a text that was written, computed: the way back from `params_text` (our own form).
+-- The parameters in a text as it is written, computed: the way back from `params_text` (our own form).
 use Rattle.std.specs.Prelude.{◌≡◌, ℕ, cond, ◌==◌, List, [], ◌∷◌}
 use Rattle.std.specs.List.{AllByRecursion}
 use Rattle.itip_lines.specs.Lawful.{params_text, IsLawfulParam}
 use Rattle.itip_lines.specs.declared.line.Param.{Param}
 
--- where an octet stands
+-- where an octet is
 pub data Place : Type 0 where
   in_name : Place
   in_value : Place
   in_quotes : Place
 
--- what is left of a text: of the name or the value at its front, the values behind that, and the parameters behind those
+-- what is left of a text: the rest of the name or value at its front, the values after that, and the parameters after those
 pub record Remains : Type 0 where
   pub part : List ℕ
   pub values : List (List ℕ)

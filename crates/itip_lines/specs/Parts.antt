@@ -14,27 +14,27 @@ is_of Name = is_name_octet
 is_of Plain = is_plain_octet
 is_of Quotable = is_quotable_octet
 
--- the first octet, if there is one, passes the test
+-- there is a first octet, and it passes the test
 abbrev pub begins : (ℕ → Bool) → List ℕ → Bool
 begins test [] = false
 begins test (b ∷ bs) = test b
 
--- `front` is the longest front of the text whose octets pass the test, and `rest` is left
+-- `front` is the longest prefix of the text whose octets pass the test, and `rest` is left
 pub record IsRun (test : ℕ → Bool) (text front rest : List ℕ) : Type 0 where
   pub whole : text ≡ front ++ rest
   pub passes : IsTrue (list_all test front)
   pub stops : begins test rest ≡ false
 
--- behind a parameter stands ";" or ":", and behind a value also ","
+-- a parameter is followed by ";" or ":"; a value may also be followed by ","
 abbrev pub ends_param : ℕ → Bool
 ends_param b = b == 59 || b == 58
 
--- `value` is the only value that the text can begin with, whatever follows it
+-- the text begins with `value`, in quotes, or without them and as long as it can be
 pub data CutsValue (text value rest : List ℕ) : Type 0 where
   quoted : IsTrue (list_all is_quotable_octet value) → text ≡ 34 ∷ (value ++ 34 ∷ rest) → CutsValue text value rest
   plain : IsRun is_plain_octet text value rest → begins (λ b. b == 34) text ≡ false → CutsValue text value rest
 
--- what may follow a value of a parameter: ";", ":" or ","
+-- what may follow a parameter value: ";", ":" or ","
 abbrev pub EndsValue : List ℕ → Type 0
 EndsValue rest = IsTrue (begins is_separator rest)
 
@@ -42,18 +42,18 @@ EndsValue rest = IsTrue (begins is_separator rest)
 abbrev pub EndsParam : List ℕ → Type 0
 EndsParam rest = IsTrue (begins ends_param rest)
 
--- the text begins with no value, whatever follows it
+-- the text begins with no value that is followed by what may follow one
 abbrev pub LacksValue : List ℕ → Type 0
 LacksValue text = (value rest : List ℕ) → ValueThen text value rest → EndsValue rest → ⊥
 
--- the text begins with these values, and what may follow them is left; or it begins with none
+-- the text begins with these values, and what may follow a parameter is left
 pub record ReadsValues (text : List ℕ) (values : List (List ℕ)) (rest : List ℕ) : Type 0 where
   pub are : ValuesThen text values rest
   pub ends : EndsParam rest
   pub utf8 : IsUtf8 rest
   pub shorter : length rest < length text + 1
 
--- the same, and `new` is `old` with these values behind it as they are written
+-- the same, and `new` is `old` followed by these values as they are written
 pub record WritesValues (text rest old new : List ℕ) : Type 0 where
   pub values : List (List ℕ)
   pub reads : ReadsValues text values rest
@@ -79,7 +79,7 @@ LacksParam text = (param : Param) (rest : List ℕ) → ParamThen text param res
 abbrev pub LacksTail : List ℕ → Type 0
 LacksTail text = (params : List Param) (value : List ℕ) → IsTail text params value → ⊥
 
--- the text is the tail of this value, and its parameters are written so
+-- the text is a tail with this value, and its parameters are written like this
 pub record WritesTail (text value wrote : List ℕ) : Type 0 where
   pub params : List Param
   pub is : IsTail text params value

@@ -13,19 +13,19 @@ use Rattle.itip_lines.specs.declared.error.LineRefusal.{LineRefusal}
 use Rattle.itip_lines.specs.declared.error.LineError.{LineError}
 use Rattle.itip_lines.specs.declared.error.LineError.TheVariants as error
 
--- the most octets of a text, and the most lines that are not empty
+-- the maximum length of a text, in octets, and the maximum number of its lines that are not empty
 abbrev pub text_limit : ℕ
 text_limit = 1048576
 
 abbrev pub count_limit : ℕ
 count_limit = 20000
 
--- a line may be looked at as the one of this count: there are not too many lines, and it is not too long
+-- a text may be looked at as line `count`: there are not too many lines, and it is not too long
 pub record IsWithinLimits (count : ℕ) (text : List ℕ) : Type 0 where
   pub few : count ≤ count_limit
   pub short : length text ≤ line_limit
 
--- the text, as the one of this count, is this line
+-- as line `count`, the text is this line
 pub record IsGood (count : ℕ) (text : List ℕ) (line : Line) : Type 0 where
   pub within : IsWithinLimits count text
   pub utf8 : IsUtf8 text
@@ -45,7 +45,7 @@ AreLines count [] (l ∷ ls) = ⊥
 AreLines count (t ∷ ts) [] = ⊥
 AreLines count (t ∷ ts) (l ∷ ls) = (l.number ≡ t.number) × IsGood count t.text l.line × AreLines (count + 1) ts ls
 
--- what is wrong with a text as the line of this count: the limits come before UTF-8, and UTF-8 before the grammar
+-- what is wrong with a text as line `count`: the limits come before UTF-8, and UTF-8 before the grammar
 abbrev pub HasCause : ℕ → List ℕ → LineCause → Type 0
 HasCause count text TooLong = ⊥
 HasCause count text TooMany = (count_limit < count) ⊎ (line_limit < length text)
@@ -57,7 +57,7 @@ HasCause count text BadLine = IsWithinLimits count text × IsUtf8 text
 abbrev pub HasRefusal : ℕ → NumberedText → LineRefusal → Type 0
 HasRefusal count t refusal = (refusal.line ≡ Some t.number) × HasCause count t.text refusal.cause
 
--- the refusal is that of the first of these texts with which anything is wrong
+-- the refusal is that of the first of these texts that has a fault
 abbrev pub FirstRefusal : ℕ → List NumberedText → LineRefusal → Type 0
 FirstRefusal count [] refusal = ⊥
 FirstRefusal count (t ∷ ts) refusal = HasRefusal count t refusal ⊎
@@ -83,15 +83,15 @@ pub record HasBadLine (bytes : List ℕ) (refusal : LineRefusal) : Type 0 where
   pub cut : IsCutting bytes pieces last
   pub first : FirstRefusal 1 (numbered_lines_of pieces last) refusal
 
--- the text as a whole has too many octets, which is the fault of no line
+-- the text as a whole has too many octets, which is not the fault of any line
 abbrev pub too_long : LineRefusal
 too_long = record { cause = TooLong; line = None }
 
--- these bytes are no lines, for this cause and in this place
+-- these bytes are refused, for this cause and in this place
 abbrev pub Refused : List ℕ → LineRefusal → Type 0
 Refused bytes refusal = ((refusal ≡ too_long) × (text_limit < length bytes)) ⊎ HasBadLine bytes refusal
 
--- of an error: nothing where memory was refused, and otherwise P of the refusal
+-- if the error is a refusal, P holds of it; of a failed allocation nothing is said
 abbrev pub IfRefused : LineError → (LineRefusal → Type 0) → Type 0
 IfRefused error.NoMemory P = Unit {0}
 IfRefused (error.Refused refusal) P = P refusal

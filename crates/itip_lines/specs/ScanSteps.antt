@@ -1,4 +1,4 @@
--- What a scan has found where a stretch ends (our own form).
+-- What a scan has found at the end of a stretch (our own form).
 use Rattle.std.specs.Prelude.{◌≡◌, ◌<◌, ◌≤◌, ◌⊎◌, ◌++◌, ℕ, ◌+◌, Option, Some, None, List, [], ◌∷◌, length}
 use Rattle.std.specs.List.{AllByRecursion}
 use Rattle.std.specs.Str.{IsUtf8}
@@ -11,12 +11,12 @@ use Rattle.itip_lines.specs.declared.line.NumberedLine.{NumberedLine}
 use Rattle.itip_lines.specs.declared.error.LineRefusal.{LineRefusal}
 use Rattle.itip_lines.specs.Reading.{IsGood, HasRefusal}
 
--- the unfolded lines that begin with this one, which began in stretch `at` and ends so
+-- the unfolded lines that begin with this one, which began in stretch `at` and ends like this
 abbrev pub texts_by : ℕ → List ℕ → End → List NumberedText
 texts_by at line (ends.Fold more) = texts_onto at line more.number more.text.now
 texts_by at line (ends.Line rest) = text_at at line ∷ texts_behind rest
 
--- how much is left to read: one more than the octets after a break
+-- how much is left to read: one more than the octets after a break, or 0 if there was none
 abbrev pub left_behind : Option Rest → ℕ
 left_behind None = 0
 left_behind (Some rest) = length rest.text.now + 1
@@ -25,7 +25,7 @@ abbrev pub left_by : End → ℕ
 left_by (ends.Fold more) = length more.text.now + 1
 left_by (ends.Line rest) = left_behind rest
 
--- no physical line of the rest has a higher number: an octet stands before each but the first
+-- no physical line of the rest has a higher number: an octet precedes each but the first
 abbrev pub last_number : Rest → ℕ
 last_number rest = rest.number + length rest.text.now
 
@@ -37,7 +37,7 @@ abbrev pub last_by : End → ℕ
 last_by (ends.Fold more) = last_number more
 last_by (ends.Line rest) = last_behind rest
 
--- the numbers of the lines of a text within its limit
+-- the highest line number in a text within its limit
 abbrev pub number_limit : ℕ
 number_limit = 1048577
 
@@ -51,7 +51,7 @@ PushesLine old t new =
     ((length t.text ≡ 0) × (new ≡ old))
     ⊎ ((0 < length t.text) × ((l : NumberedLine) × (new ≡ old ++ l ∷ []) × (l.number ≡ t.number) × IsGood (length old + 1) t.text l.line))
 
--- the first unfolded line of `left` was read so, and `rest` is left
+-- the first unfolded line of `left` was read, and `rest` is left
 pub record ReadsNext (left : Rest) (old new : List NumberedLine) (rest : Option Rest) : Type 0 where
   pub line : List ℕ
   pub first : texts_behind (Some left) ≡ text_at left.number line ∷ texts_behind rest

@@ -1,4 +1,4 @@
--- The octets of a line, wherever they stand (our own form).
+-- The octets of a line, wherever they are stored (our own form).
 use Rattle.std.specs.Prelude.{ℕ, List}
 use Rattle.itip_lines.specs.declared.line_octets.LineOctets.{LineOctets}
 use Rattle.itip_lines.specs.declared.line_octets.LineOctets.TheVariants.{InText, Own}

@@ -5,19 +5,19 @@ use Rattle.std.specs.Str.{str_to_ascii_uppercase}
 use Rattle.itip_lines.specs.Octets.{is_name_octet, is_value_octet, is_quotable_octet, is_plain_octet}
 use Rattle.itip_lines.specs.declared.line.Param.{Param}
 
--- a name in letters of either case, read into upper case
+-- a name in letters of either case, read as upper case
 pub record SpellsName (text name : List ℕ) : Type 0 where
   pub some : 0 < length text
   pub octets : IsTrue (list_all is_name_octet text)
   pub name_is : name ≡ str_to_ascii_uppercase text
 
--- the text begins with this value of a parameter, in quotes or without
+-- the text begins with this parameter value, in quotes or without
 abbrev pub ValueThen : List ℕ → List ℕ → List ℕ → Type 0
 ValueThen text value rest =
     (IsTrue (list_all is_quotable_octet value) × (text ≡ 34 ∷ (value ++ 34 ∷ rest)))
     ⊎ (IsTrue (list_all is_plain_octet value) × (text ≡ value ++ rest))
 
--- the text begins with these values, at least one, with commas between
+-- the text begins with these values, at least one, with commas between them
 abbrev pub ValuesThen : List ℕ → List (List ℕ) → List ℕ → Type 0
 ValuesThen text [] rest = ⊥
 ValuesThen text (v ∷ []) rest = ValueThen text v rest

@@ -1,4 +1,4 @@
--- The stretches and lines of a text from a place on, computed: what one scan finds (our own form).
+-- The stretches and lines of a text from a given place on, computed: what one scan finds (our own form).
 use Rattle.std.specs.Prelude.{◌≡◌, ◌≢◌, ◌⊎◌, false, IsTrue, ℕ, ◌+◌, cond, ◌==◌, Option, Some, None, List, [], ◌∷◌, ◌++◌, length}
 use Rattle.std.specs.List.{slice_split}
 use Rattle.itip_lines.specs.Cutting.{NumberedText, numbered_onto, unfolded_onto, is_blank, with_octets}
@@ -17,7 +17,7 @@ without_cr (b ∷ (c ∷ bs)) = b ∷ without_cr (c ∷ bs)
 abbrev pub StripsCr : List ℕ → List ℕ → Type 0
 StripsCr stretch front = (stretch ≡ front ++ 13 ∷ []) ⊎ ((stretch ≡ front) × ((other : List ℕ) → stretch ≢ other ++ 13 ∷ []))
 
--- the text begins with a blank, and with none
+-- the text begins with a blank, or it does not
 abbrev pub BeginsWithBlank : List ℕ → List ℕ → Type 0
 BeginsWithBlank text more = (b : ℕ) × (text ≡ b ∷ more) × IsTrue (is_blank b)
 
@@ -32,26 +32,26 @@ without_crs (c ∷ (d ∷ ds)) = without_cr c ∷ without_crs (d ∷ ds)
 unfoldable pub stretches_of : List ℕ → List (List ℕ)
 stretches_of text = without_crs (slice_split (λ b. b == 10) text)
 
--- the stretches behind a break, if there was one
+-- the stretches after a break, if there was one
 abbrev pub stretches_behind : Option (Bor (List ℕ)) → List (List ℕ)
 stretches_behind None = []
 stretches_behind (Some rest) = stretches_of rest.now
 
--- one more than the octets after a break, and nothing where there was none
+-- one more than the octets after a break, or 0 if there was none
 abbrev pub length_behind : Option (Bor (List ℕ)) → ℕ
 length_behind None = 0
 length_behind (Some rest) = length rest.now + 1
 
--- the unfolded lines of these stretches, the first of which goes on this line
+-- the unfolded lines of these stretches, the first of which continues this line
 abbrev pub onto_stretches : List ℕ → List (List ℕ) → List (List ℕ)
 onto_stretches line [] = []
 onto_stretches line (c ∷ cs) = unfolded_onto (line ++ c) cs
 
--- the unfolded lines of a text whose first stretch goes on this line
+-- the unfolded lines of a text whose first stretch continues this line
 unfoldable pub lines_onto : List ℕ → List ℕ → List (List ℕ)
 lines_onto line text = onto_stretches line (stretches_of text)
 
--- The same, numbered: the first stretch has the number `here`, and goes on this line, which began in stretch `at`.
+-- The same, numbered: the first stretch has the number `here`, and continues this line, which began in stretch `at`.
 abbrev pub numbered_stretches : ℕ → List ℕ → ℕ → List (List ℕ) → List NumberedText
 numbered_stretches at line here [] = []
 numbered_stretches at line here (c ∷ cs) = numbered_onto at (line ++ c) (here + 1) cs

@@ -1,4 +1,4 @@
--- What an iterator has left (our own form).
+-- The texts that an iterator has left (our own form).
 use Rattle.std.specs.Prelude.{ℕ, List}
 use Rattle.itip_lines.specs.Joining.{texts_in}
 use Rattle.itip_lines.specs.declared.text_list.Texts.{Texts}

@@ -1,4 +1,4 @@
-//! Octets in memory of their own, as a clause sees them: a list.
+//! Owned bytes, which contracts see as a list.
 ghost use Rattle.std.specs.Prelude.{◌≡◌, ◌∷◌, ◌++◌, [], IfOk, OnOk, OnErr, nat_eq, refl, Some};
 ghost use Rattle.std.specs.Ordering.{nat_cmp};
 ghost use Rattle.std.specs.Cmp.Lexicographic.{pointwise, slice_cmp, nat_list_eq_equiv, nat_list_cmp_total, texts_ties, texts_po};
@@ -13,7 +13,7 @@ use std::cmp::Ordering;
 use std::hash::{Hash, Hasher};
 use std::marker::Model;
 
-/// Octets, compared from the first to the last.
+/// Owned bytes, compared lexicographically.
 #[derive(Debug, Drop)]
 pub struct Bytes {
     octets: Vec<u8>,
@@ -28,21 +28,21 @@ impl Model for Bytes {
 }
 
 impl Bytes {
-    /// The octets of a vector, whose memory they keep.
+    /// Wraps the bytes of a vector, and keeps its memory.
     pub fn new(octets: Vec<u8>) -> Bytes
         ensures { result ≡ octets.items }
     {
         Bytes { octets }
     }
 
-    /// The vector, with the memory that the octets had.
+    /// Returns the vector, with the same memory.
     pub fn into_vec(self) -> Vec<u8>
         ensures { result.items ≡ self }
     {
         self.octets
     }
 
-    /// Adds a text with LF behind it. Where memory is refused they stay as they were.
+    /// Appends a text and LF. If an allocation fails, the bytes are left unchanged.
     pub(crate) fn push_text(&mut self, text: &[u8]) -> Result<(), AllocError>
         ensures pushed { OnOk result (self.new ≡ self.old ++ (text.now ++ 10 ∷ [])) }
         ensures err { OnErr result (self.new ≡ self.old) }
@@ -55,7 +55,7 @@ impl Bytes {
         done
     }
 
-    /// The octets.
+    /// The bytes.
     pub fn as_slice(&self) -> &[u8]
         ensures { result.now ≡ self.now }
     {
@@ -63,7 +63,7 @@ impl Bytes {
     }
 }
 
-/// Appends a text with LF behind it; where memory is refused, perhaps a part of it.
+/// Appends a text and LF. If an allocation fails, a part of it may have been appended.
 pub(crate) fn append(text: &[u8], out: &mut Vec<u8>) -> Result<(), AllocError>
     ensures appended { OnOk result (out.new.items ≡ out.old.items ++ (text.now ++ 10 ∷ [])) }
     ensures extends { Extends out.old.items out.new.items }

@@ -1,4 +1,4 @@
-//! Why a text is not read, and where.
+//! Why a text is refused, and where.
 ghost use Rattle.std.specs.Prelude.{◌≡◌};
 ghost use Rattle.itip_lines.specs.declared.error.LineError.TheVariants.{NoMemory};
 
@@ -15,7 +15,7 @@ pub enum LineCause {
     /// The text has more than 20,000 lines, or a line has more than 65,536 octets.
     #[error("the text has more than 20,000 lines, or a line of more than 65,536 octets")]
     TooMany,
-    /// A line is not of the grammar (RFC 5545 3.1).
+    /// A line does not match the grammar (RFC 5545 3.1).
     #[error("a line is no content line")]
     BadLine,
     /// A line is not UTF-8.
@@ -28,12 +28,12 @@ pub enum LineCause {
 pub struct LineRefusal {
     /// What is wrong.
     pub cause: LineCause,
-    /// The number, from 1, of the physical line in which the first faulty line begins, folded and empty ones counted.
+    /// The number, from 1, of the physical line where the first faulty line begins; folded and empty ones count.
     /// `None` exactly for `TooLong`.
     pub line: Option<usize>,
 }
 
-/// The cause, and the line where there is one: `line 7 is no content line`.
+/// The cause, and the line if there is one, as in `line 7 is no content line`.
 impl fmt::Display for LineRefusal {
     fn fmt<W: fmt::Write>(&self, f: &mut fmt::Formatter<W>) -> fmt::Result {
         let LineRefusal { cause, line } = *self;
@@ -48,13 +48,13 @@ impl fmt::Display for LineRefusal {
 
 impl std::error::Error for LineRefusal {}
 
-/// Why no lines were given.
+/// Why lines could not be read.
 #[derive(Debug, Drop, Error)]
 pub enum LineError {
     /// An allocation failed.
     #[error("no memory to read lines")]
     NoMemory,
-    /// The text is not one of content lines.
+    /// The text was refused, for this cause and in this place.
     #[error("{0}")]
     Refused(LineRefusal),
 }

@@ -21,9 +21,9 @@ use std::alloc::{AllocError, Global};
 pub(crate) enum Octets {
     /// A name: letters, digits and `-`.
     Name,
-    /// A parameter's value without quotes.
+    /// A parameter value without quotes.
     Plain,
-    /// A parameter's value between quotes.
+    /// A parameter value between quotes.
     Quotable,
 }
 
@@ -45,11 +45,11 @@ fn is_value_octet(octet: u8) -> bool
     (octet == b'\t') | ((octet >= b' ') & (octet != 127))
 }
 
-/// Whether a line's value may have all of these octets.
+/// Whether the value of a line may have all of these octets.
 fn are_value_octets(octets: &[u8]) -> bool
     ensures { result ≡ list_all is_value_octet octets.now }
 {
-    // With no early exit several octets are tested at a time.
+    // Without an early exit, several octets are tested at a time.
     let mut all = true;
     for octet in octets {
         all &= is_value_octet(*octet);
@@ -57,7 +57,7 @@ fn are_value_octets(octets: &[u8]) -> bool
     all
 }
 
-/// Whether the octet is one for which a parameter's value needs quotes.
+/// Whether a parameter value with this octet needs quotes.
 pub(crate) fn is_separator(octet: u8) -> bool
     ensures { result ≡ is_separator octet }
 {
@@ -76,21 +76,21 @@ impl Octets {
     }
 }
 
-/// How many such octets the text begins with.
+/// The length of the longest prefix of such octets.
 fn run_len(text: &[u8], octets: Octets) -> usize
     ensures { result ≡ prefix_len (is_of octets) text.now }
 {
     text.iter().take_while(|b| octets.has(**b)).count()
 }
 
-/// The longest front of such octets, and the rest.
+/// The longest prefix of such octets, and the rest.
 pub(crate) fn cut_run(text: &[u8], octets: Octets) -> (&[u8], &[u8])
     ensures { IsRun (is_of octets) text.now result.0.now result.1.now }
 {
     text.split_at(run_len(text, octets))
 }
 
-/// What stands behind the octet, where the text begins with it.
+/// What follows the octet, if the text begins with it.
 pub(crate) fn strip(text: &[u8], octet: u8) -> Option<&[u8]>
     ensures { MatchOption result ((rest : List ℕ) → text.now ≢ octet ∷ rest)
         (λ rest. text.now ≡ octet ∷ rest.now) }
@@ -101,10 +101,9 @@ pub(crate) fn strip(text: &[u8], octet: u8) -> Option<&[u8]>
     }
 }
 
-/// The value of a parameter that the text begins with, without its quotes, and the rest.
+/// The parameter value that the text begins with, without its quotes, and the rest.
 ///
-/// The text has one such value at most, whatever follows it. A value that stands without quotes goes as far
-/// as it can.
+/// A value without quotes extends as far as it can, so there is at most one.
 fn cut_value(text: &[u8]) -> Option<(&[u8], &[u8])>
     ensures { MatchOption result (LacksValue text.now) (λ p. CutsValue text.now p.0.now p.1.now) }
 {
@@ -125,8 +124,8 @@ fn ends_param(text: &[u8]) -> bool
     matches!(text, [b';' | b':', ..])
 }
 
-/// Appends the values of a parameter that the text begins with, up to `;` or `:`, and gives the rest. Where there are none,
-/// perhaps a part of them is appended.
+/// Appends the parameter values that the text begins with, up to `;` or `:`, and returns the rest. Returns `None` if it does
+/// not begin with such values; some of them may have been appended then.
 fn read_values<'a>(text: &'a [u8], out: &mut Vec<u8>) -> Result<Option<&'a [u8]>, AllocError>
     requires { IsUtf8 text.now }
     ensures { IfOk result (λ o. MatchOption o (LacksValues text.now)
@@ -149,7 +148,7 @@ fn read_values<'a>(text: &'a [u8], out: &mut Vec<u8>) -> Result<Option<&'a [u8]>
     }
 }
 
-/// Appends the octets, ASCII letters in upper case.
+/// Appends the octets, with ASCII letters in upper case.
 fn push_upper(text: &[u8], out: &mut Vec<u8>) -> Result<(), AllocError>
     ensures { OnOk result (out.new.items ≡ out.old.items ++ map to_ascii_uppercase text.now) }
 {
@@ -169,8 +168,8 @@ fn push_name(name: &[u8], out: &mut Vec<u8>) -> Result<(), AllocError>
     Ok(())
 }
 
-/// Appends the parameter that the text begins with, and gives the rest. Where there is none, perhaps a part of it is
-/// appended.
+/// Appends the parameter that the text begins with, and returns the rest. Returns `None` if it does not begin with one; a
+/// part of it may have been appended then.
 fn read_param<'a>(text: &'a [u8], out: &mut Vec<u8>) -> Result<Option<&'a [u8]>, AllocError>
     requires { IsUtf8 text.now }
     ensures { IfOk result (λ o. MatchOption o (LacksParam text.now)
@@ -190,8 +189,8 @@ fn read_param<'a>(text: &'a [u8], out: &mut Vec<u8>) -> Result<Option<&'a [u8]>,
     Ok(Some(rest))
 }
 
-/// The value of a line, from what stands behind its name. `params` gets the text of the parameters as they are written, in place
-/// of what it had; where there is no value, perhaps a part of it.
+/// The value of a line, from what follows its name. The contents of `params` are replaced by the parameters as they are written;
+/// if `None` is returned, perhaps by a part of them.
 fn read_tail<'a>(text: &'a [u8], params: &mut Vec<u8>) -> Result<Option<&'a [u8]>, AllocError>
     requires { IsUtf8 text.now }
     ensures { IfOk result (λ o. MatchOption o (LacksTail text.now) (λ value. WritesTail text.now value.now params.new.items)) }
@@ -213,7 +212,7 @@ fn read_tail<'a>(text: &'a [u8], params: &mut Vec<u8>) -> Result<Option<&'a [u8]
     Ok(Some(value))
 }
 
-/// Whether a name has no letter in lower case.
+/// Whether a name has no lower-case letters.
 fn is_upper(name: &[u8]) -> bool
     ensures { result ≡ list_all is_upper_name_octet name.now }
 {
@@ -240,7 +239,7 @@ fn is_value(text: &[u8], value: &[u8]) -> bool
     }
 }
 
-/// Appends a line without folds, of this name, of parameters that are written so, and of this value.
+/// Appends a line without folds: the name in upper case, the parameters as they are, `:` and the value.
 pub(crate) fn append_line(
     name: &[u8],
     params: &[u8],
@@ -255,7 +254,7 @@ pub(crate) fn append_line(
     out.extend_from_slice(value)
 }
 
-/// The octets of a line of this name and tail, where they are written otherwise than they stand.
+/// The octets of a line as it is written, or `None` if they are `name` followed by `tail`.
 fn anew(
     alloc: Global,
     name: &[u8],
@@ -274,18 +273,18 @@ fn anew(
     Ok(Some(octets))
 }
 
-/// How a text is a line, as it is written.
+/// A line found in a text, as it is written.
 #[derive(Drop)]
 pub(crate) struct Found {
-    /// The octets of the line, where the text has others.
+    /// The octets of the line, if the text has others.
     pub anew: Option<Vec<u8>>,
-    /// How many octets the name has.
+    /// The length of the name, in octets.
     pub name: usize,
-    /// Where the value begins.
+    /// The offset of the value, in octets.
     pub value: usize,
 }
 
-/// How the text is a line, where the grammar has one. `params` is room for its parameters.
+/// Finds the line in a text, or returns `None` if the text does not match the grammar. `params` is scratch space for its parameters.
 fn find_line(alloc: Global, text: &[u8], params: &mut Vec<u8>) -> Result<Option<Found>, AllocError>
     requires utf8 { IsUtf8 text.now }
     requires short { length text.now ≤ line_limit }
@@ -308,7 +307,7 @@ fn find_line(alloc: Global, text: &[u8], params: &mut Vec<u8>) -> Result<Option<
     }))
 }
 
-/// The octets that are written anew, and else those of the text.
+/// The octets that were written anew, or else those of the text.
 fn or_anew(text: LineOctets<'_>, anew: Option<Vec<u8>>) -> LineOctets<'_>
     ensures { octets_of result ≡ or_anew (octets_of text.entry) anew }
 {
@@ -318,7 +317,7 @@ fn or_anew(text: LineOctets<'_>, anew: Option<Vec<u8>>) -> LineOctets<'_>
     }
 }
 
-/// The line of a text, where the grammar has one. `params` is room for its parameters.
+/// Parses a text as a line, or returns `None` if it does not match the grammar. `params` is scratch space for its parameters.
 pub(crate) fn read_text<'a>(
     alloc: Global,
     text: LineOctets<'a>,

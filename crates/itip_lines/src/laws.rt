@@ -1,4 +1,4 @@
-//! What holds of reading and writing. The functions do nothing: their contracts are the laws.
+//! Laws of reading and writing. The functions do nothing: their contracts are the laws.
 ghost use Rattle.std.specs.Prelude.{◌≡◌, ◌≤◌, ◌⊎◌, ◌↔◌, ◌∷◌, [], List, ℕ, None, length};
 ghost use Rattle.itip_lines.specs.Cutting.{Piece, IsCutting, lines_of, numbered_lines_of, texts_of};
 ghost use Rattle.itip_lines.specs.Reading.{Reads, ReadsLines, Refused, line_at};
@@ -9,7 +9,7 @@ ghost use Rattle.itip_lines.specs.declared.line.NumberedLine.{NumberedLine};
 ghost use Rattle.itip_lines.specs.declared.error.LineCause.TheVariants.{TooLong};
 ghost use Rattle.itip_lines.specs.declared.error.LineRefusal.{LineRefusal};
 
-/// A text is cut at its line breaks in one way, and only in one (RFC 5545 3.1). Its numbered lines are its lines.
+/// A text is cut at its line breaks in exactly one way (RFC 5545 3.1). Without the numbers, its numbered lines are its lines.
 pub fn cutting_laws()
     ensures some { (bytes : List ℕ)
         → (pieces : List Piece) × (last : List ℕ) × IsCutting bytes pieces last }
@@ -20,7 +20,7 @@ pub fn cutting_laws()
         → texts_of (numbered_lines_of pieces last) ≡ lines_of pieces last }
 {}
 
-/// A text is read as one list of numbered lines, or it is refused for one cause in one place, and not both.
+/// A text is either read as exactly one list of lines, or refused for exactly one cause, in one place unless it is too long.
 pub fn reading_laws()
     ensures some { (bytes : List ℕ)
         → ((lines : List NumberedLine) × Reads bytes lines) ⊎ ((refusal : LineRefusal) × Refused bytes refusal) }
@@ -34,8 +34,8 @@ pub fn reading_laws()
         → Refused bytes refusal → (refusal.line ≡ None) ↔ (refusal.cause ≡ TooLong) }
 {}
 
-/// What was written of lines is read as these lines, where it is within the limits of a text; and a line is
-/// written in pieces of at most 75 octets that cut no character, each as long as it can be (RFC 5545 3.1).
+/// Written lines are read back as the same lines if they are within the limits of a text, as a single line always is. A line is
+/// written in pieces of at most 75 octets that split no character, each as long as possible (RFC 5545 3.1): there is only one way.
 pub fn writing_laws()
     ensures read_again { (lines : List Line)
         → length lines ≤ 20000 → length (all_written lines) ≤ 1048576

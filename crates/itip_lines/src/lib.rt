@@ -1,9 +1,9 @@
-//! Content lines (RFC 5545 3.1): bytes are read into numbered lines, or refused with the place of their first fault,
+//! Content lines (RFC 5545 3.1): bytes are parsed into numbered lines, or refused with the place of their first fault,
 //! and a `Line` is written with folds.
 //!
-//! A `SeenLine` stands in the bytes that it is read of, and contracts see it as the `Line` that it is. `Text`, `Bytes` and
-//! `ListOf` are strings and vectors that contracts see as plain lists. `Params`, `TextList` and `LineList` are one text each, and
-//! contracts see them as the parameters, texts and lines in it.
+//! A `SeenLine` borrows from the bytes that it was read from where it can, and contracts see it as the `Line` that it is.
+//! `Text`, `Bytes` and `ListOf` are strings and vectors that contracts see as plain lists. `Params`, `TextList` and `LineList`
+//! hold one text each, which contracts see as the parameters, texts and lines in it.
 #![tactic(auto)]
 
 mod bytes;

@@ -8,7 +8,7 @@ use crate::seen_line::SeenLine;
 use crate::text::Text;
 use std::alloc::AllocError;
 
-/// A parameter of a line, as contracts see each of its `Params`: its name in upper case, and its values without quotes.
+/// A parameter of a line, as contracts see each one in `Params`: its name in upper case, and its values without quotes.
 #[derive(Drop)]
 pub struct Param {
     pub name: Text,
@@ -17,8 +17,8 @@ pub struct Param {
 
 /// A content line (RFC 5545 3.1).
 ///
-/// A line is lawful: names are in upper case, no value has a control but HTAB, no parameter's value has a
-/// quote, each parameter has a value, and the line has at most 65,536 octets as it is written without folds.
+/// A line is lawful: names are in upper case, no value has a control character except HTAB, no parameter value has a
+/// quote, each parameter has a value, and the line has at most 65,536 octets when written without folds.
 #[derive(PartialEq, Debug, Drop)]
 pub struct Line {
     pub name: Text,
@@ -27,11 +27,11 @@ pub struct Line {
     pub ghost lawful: { IsLawful name params value } by { IsLawful-prop name params value },
 }
 
-/// A content line, and where it stands in its text.
+/// A content line, with its place in the text.
 #[derive(Debug, Drop)]
 pub struct NumberedLine<'a> {
-    /// The number, from 1, of the physical line in which the line begins. A physical line ends at LF: folded and empty
-    /// ones are counted.
+    /// The number, from 1, of the physical line where the line begins. A physical line ends at LF; folded and empty ones
+    /// count.
     pub number: usize,
     pub line: SeenLine<'a>,
 }

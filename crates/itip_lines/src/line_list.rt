@@ -1,4 +1,4 @@
-//! Lines that stand in one piece of memory.
+//! Lines stored in one block of memory.
 ghost use Rattle.std.specs.Prelude.{◌≡◌, ◌∷◌, ◌++◌, [], OnOk, OnErr, length, map};
 ghost use Rattle.std.specs.List.{list_any};
 ghost use Rattle.itip_lines.specs.LineTexts.{AreLineTexts, AreLineTexts-prop, has_line, name_in};
@@ -13,9 +13,9 @@ use crate::text_list::{TextList, Texts};
 use std::alloc::{AllocError, Global};
 use std::marker::Model;
 
-/// Lines in order, as they are kept where nothing reads their parts.
+/// Lines in order, for uses that do not read their parts.
 ///
-/// They have no values of their own: each stands as it is written, without folds, in a list of texts.
+/// Each is stored as it is written, without folds, in a list of texts.
 #[derive(Debug, Drop)]
 pub struct LineList {
     texts: TextList,
@@ -40,7 +40,7 @@ impl Model for LineList {
 }
 
 impl LineList {
-    /// No line. It takes no memory.
+    /// The empty list. Does not allocate.
     pub fn new(alloc: Global) -> LineList
         ensures { result ≡ [] }
     {
@@ -49,7 +49,7 @@ impl LineList {
         }
     }
 
-    /// Adds a copy of a line. Where memory is refused the list stays as it was.
+    /// Appends a copy of a line. If an allocation fails, the list is left unchanged.
     pub fn push(&mut self, line: &SeenLine<'_>) -> Result<(), AllocError>
         ensures pushed { OnOk result (self.new ≡ self.old ++ line.now ∷ []) }
         ensures err { OnErr result (self.new ≡ self.old) }
@@ -57,7 +57,7 @@ impl LineList {
         self.texts.push(line.as_str())
     }
 
-    /// The same lines, without spare room.
+    /// The same lines, without spare capacity.
     pub fn exact(self) -> LineList
         ensures { result ≡ self }
     {
@@ -66,21 +66,21 @@ impl LineList {
         }
     }
 
-    /// The lines as they are written, without folds and breaks, one after the other.
+    /// An iterator over the lines as they are written, without folds and line breaks.
     pub fn texts(&self) -> Texts<'_>
         ensures { texts_left result ≡ map unfolded_text self.now }
     {
         self.texts.iter()
     }
 
-    /// Whether there is a line of this name, which is in upper case. It takes no memory.
+    /// Whether there is a line with this name, given in upper case. Does not allocate.
     pub fn has(&self, name: &str) -> bool
         ensures { result ≡ has_line name.now self.now }
     {
         any_named(self.texts(), name)
     }
 
-    /// How many lines there are. It takes no memory, and goes through all lines.
+    /// The number of lines. Goes through all of them, without allocating.
     pub fn len(&self) -> usize
         ensures { result ≡ length self.now }
     {
@@ -88,14 +88,14 @@ impl LineList {
     }
 }
 
-/// Whether there is a line of this name, which is in upper case, among these texts.
+/// Whether one of these texts is a line with this name, given in upper case.
 fn any_named(mut texts: Texts<'_>, name: &str) -> bool
     ensures { result ≡ list_any (λ text. same_text (name_in text) name.now) (texts_left texts.entry) }
 {
     texts.any(|text| has_name(text, name))
 }
 
-/// Whether the line of a text has this name, which is in upper case.
+/// Whether the line in `text` has this name, given in upper case.
 fn has_name(text: &str, name: &str) -> bool
     ensures { result ≡ same_text (name_in text.now) name.now }
 {

@@ -1,10 +1,10 @@
-//! Where the octets of a line stand.
+//! Where the octets of a line are stored.
 ghost use Rattle.std.specs.Prelude.{◌≡◌, IfOk};
 ghost use Rattle.itip_lines.specs.SeenOctets.{octets_of};
 
 use std::alloc::{AllocError, Global};
 
-/// The octets of a line: a part of the text that is read, or memory of their own.
+/// The octets of a line: borrowed from the text that is read, or owned.
 #[derive(Drop)]
 pub(crate) enum LineOctets<'a> {
     InText(&'a [u8]),
@@ -21,7 +21,7 @@ impl<'a> LineOctets<'a> {
         }
     }
 
-    /// The same octets in memory of their own.
+    /// The same octets, owned.
     pub(crate) fn into_own(self, alloc: Global) -> Result<LineOctets<'static>, AllocError>
         ensures { IfOk result (λ own. octets_of own ≡ octets_of self.entry) }
     {

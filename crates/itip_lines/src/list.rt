@@ -1,4 +1,4 @@
-//! A list of values, as a clause sees it.
+//! A vector that contracts see as a list.
 ghost use Rattle.std.specs.Prelude.{◌≡◌, ◌↔◌, IsTrue, [], length};
 ghost use Rattle.std.specs.List.{AllZip};
 ghost use Rattle.std.specs.Cmp.Lexicographic.{pointwise, slice_cmp, slice_partial_cmp, lists_equiv, lists_agrees, lists_total, lists_ties};
@@ -8,7 +8,7 @@ use std::alloc::{AllocError, Global};
 use std::cmp::Ordering;
 use std::marker::Model;
 
-/// Values in order, as contracts see the vector that holds them.
+/// Values in order: a vector that contracts see as a plain list.
 #[derive(Debug, Drop)]
 pub struct ListOf<T> {
     values: Vec<T>,
@@ -23,7 +23,7 @@ impl<T> Model for ListOf<T> {
 }
 
 impl<T> ListOf<T> {
-    /// No value. It takes no memory.
+    /// The empty list. Does not allocate.
     pub fn new(alloc: Global) -> ListOf<T>
         ensures { result ≡ [] }
     {
@@ -32,14 +32,14 @@ impl<T> ListOf<T> {
         }
     }
 
-    /// The values of a vector, whose memory they keep.
+    /// Wraps the values of a vector, and keeps its memory.
     pub fn from_vec(values: Vec<T>) -> ListOf<T>
         ensures { result ≡ values.items }
     {
         ListOf { values }
     }
 
-    /// The values of a vector, whose spare room is given back.
+    /// Wraps the values of a vector, and releases its spare capacity.
     pub fn exact(mut values: Vec<T>) -> ListOf<T>
         ensures { result ≡ values.items }
     {
@@ -47,7 +47,7 @@ impl<T> ListOf<T> {
         ListOf { values }
     }
 
-    /// The vector, with the memory that the list had.
+    /// Returns the vector, with the same memory.
     pub fn into_vec(self) -> Vec<T>
         ensures { result.items ≡ self }
     {
@@ -61,14 +61,14 @@ impl<T> ListOf<T> {
         self.values.as_slice()
     }
 
-    /// How many values there are.
+    /// The number of values.
     pub fn len(&self) -> usize
         ensures { result ≡ length self.now }
     {
         self.values.len()
     }
 
-    /// Whether there is none.
+    /// Whether the list is empty.
     pub fn is_empty(&self) -> bool
         ensures { IsTrue result ↔ (length self.now ≡ 0) }
     {

@@ -1,4 +1,4 @@
-//! Finding a parameter by its name in the text of a line's parameters.
+//! Looking up a parameter by its name in the text of a line's parameters.
 ghost use Rattle.std.specs.Prelude.{◌≡◌, ◌≤◌, ◌==◌, ◌&&◌, false, not, cond, ℕ, List, length, MatchOption};
 ghost use Rattle.itip_lines.specs.Lookup.{same_text, has_param, param_value, behind_values, StandsFor, BeginsWithValue, IsFound};
 ghost use Rattle.itip_lines.specs.ParamsText.{params_in, IsParamsText};
@@ -6,10 +6,10 @@ ghost use Rattle.itip_lines.specs.declared.line.Param.{Param};
 
 use crate::grammar::{Octets, cut_run, strip};
 
-/// The first value of the first parameter of this name, which is in upper case; empty where there is none. It takes no
-/// memory.
+/// The first value of the first parameter with this name, given in upper case; empty if there is none. Does not
+/// allocate.
 ///
-/// `params` is the text of parameters, as `Params::as_str` gives it.
+/// `params` is the text of parameters, as `Params::as_str` returns it.
 pub fn param_value<'a>(params: &'a str, name: &str) -> &'a str
     requires { IsParamsText params.now }
     ensures { result.now ≡ param_value name.now (params_in params.now) }
@@ -21,7 +21,7 @@ pub fn param_value<'a>(params: &'a str, name: &str) -> &'a str
     }
 }
 
-/// The text from the values of the first parameter of this name on.
+/// The text from the values of the first parameter with this name on, or `None` if there is none.
 pub(crate) fn values_of<'a>(name: &str, text: &'a [u8]) -> Option<&'a [u8]>
     ensures { (params : List Param) → StandsFor name.now params text.now
         → MatchOption result (has_param name.now params ≡ false) (λ values. IsFound name.now params values.now) }
@@ -53,7 +53,7 @@ pub(crate) fn leading_value(text: &[u8]) -> &[u8]
     }
 }
 
-/// The text from its first `;` on that no quotes enclose.
+/// The text from the first `;` outside quotes on; empty if there is none.
 fn behind_values(text: &[u8]) -> &[u8]
     ensures behind { result.now ≡ behind_values false text.now }
     ensures shorter { length result.now ≤ length text.now }
@@ -76,7 +76,7 @@ fn ends_values(quoted: bool, octet: u8) -> bool
     !quoted && octet == b';'
 }
 
-/// Whether quotes enclose what follows an octet.
+/// Whether what follows the octet is inside quotes.
 fn is_quoted_behind(quoted: bool, octet: u8) -> bool
     ensures { result ≡ cond (octet == 34) (not quoted) quoted }
 {

@@ -19,8 +19,8 @@ use std::marker::Model;
 
 /// The parameters of a line (RFC 5545 3.2), each a name with its values, in order.
 ///
-/// They are lawful, and stand in one piece of memory as they are written: names in upper case, and a value in quotes
-/// exactly where it has `;`, `:` or `,`.
+/// They are lawful, and are stored in one block of memory as they are written: names in upper case, and a value in
+/// quotes exactly if it has `;`, `:` or `,`.
 #[derive(Drop)]
 pub struct Params {
     octets: Bytes,
@@ -45,7 +45,7 @@ impl Model for Params {
 }
 
 impl Params {
-    /// No parameter. It takes no memory.
+    /// No parameters. Does not allocate.
     pub fn new(alloc: Global) -> Params
         ensures { result ≡ [] }
     {
@@ -62,7 +62,7 @@ impl Params {
         Ok(Params::from_text(text))
     }
 
-    /// The parameters of this text, whose memory they keep.
+    /// The parameters in this text, whose memory they keep.
     pub(crate) fn from_text(text: Vec<u8>) -> Params
         requires { IsParamsText text.items }
         ensures { (params : List Param) → AllByRecursion IsLawfulParam params → text.items ≡ params_text params → result ≡ params }
@@ -71,7 +71,7 @@ impl Params {
         Params { octets }
     }
 
-    /// The text of the parameters as it is written, each behind its `;`.
+    /// The parameters as they are written, each with its leading `;`.
     pub fn as_str(&self) -> &str
         ensures text { result.now ≡ params_text self.now }
         ensures lawful { AllByRecursion IsLawfulParam self.now }
@@ -80,15 +80,15 @@ impl Params {
         unsafe { str::from_utf8_unchecked(self.octets.as_slice()) }
     }
 
-    /// Whether there is a parameter of this name, which is in upper case. It takes no memory.
+    /// Whether there is a parameter with this name, given in upper case. Does not allocate.
     pub fn has(&self, name: &str) -> bool
         ensures { result ≡ has_param name.now self.now }
     {
         values_of(name, self.as_str().as_bytes()).is_some()
     }
 
-    /// The first value of the first parameter of this name, which is in upper case; empty where there is none. It takes
-    /// no memory.
+    /// The first value of the first parameter with this name, given in upper case; empty if there is none. Does not
+    /// allocate.
     pub fn first_value(&self, name: &str) -> &str
         ensures { result.now ≡ param_value name.now self.now }
     {

@@ -16,22 +16,22 @@ use crate::scan::{End, Rest, cut_stretch, unfold};
 use simdutf8::is_utf8;
 use std::alloc::Global;
 
-/// The most octets of a text (our own limit).
+/// The maximum length of a text, in octets (our own limit).
 const TEXT_LIMIT: usize = 1_048_576;
-/// The most lines of a text, without the empty ones (our own limit).
+/// The maximum number of lines in a text, empty ones not counted (our own limit).
 const COUNT_LIMIT: usize = 20_000;
-/// The most octets of an unfolded line, without its break (our own limit).
+/// The maximum length of an unfolded line without its break, in octets (our own limit).
 const LINE_LIMIT: usize = 65_536;
 
-/// As many lines as most messages have.
+/// Room for as many lines as most messages have.
 const USUAL: usize = 20;
 
-/// The content lines of a text (RFC 5545 3.1), unfolded, in order, the empty ones left out, each with the number of the
-/// physical line in which it begins.
+/// Parses the content lines of a text (RFC 5545 3.1): unfolded, in order, without empty ones, each with the number of the
+/// physical line where it begins.
 ///
-/// A line break is LF or CRLF, and one before SPACE or HTAB is a fold. A refusal names the place of the first faulty
-/// line: more than 20,000 lines or 65,536 octets come first, then UTF-8, then the grammar. A text of more than 1,048,576
-/// octets is not looked at. A line stands in the text, where it stands there as it is written.
+/// A line break is LF or CRLF; one before SPACE or HTAB is a fold. A line borrows from the text if the text has it exactly as it is
+/// written without folds. A text of more than 1,048,576 octets is refused as `TooLong` without being looked at. Otherwise the first
+/// faulty line decides: `TooMany` if it is beyond the 20,000th or has more than 65,536 octets, else `NotUtf8`, else `BadLine`.
 pub fn read_lines(alloc: Global, text: &[u8]) -> Result<Vec<NumberedLine<'_>>, LineError>
     ensures found { IfOk result (λ lines. Reads text.now lines.items) }
     ensures refused { IfErr result (λ e. IfRefused e (Refused text.now)) }
@@ -55,16 +55,16 @@ pub fn read_lines(alloc: Global, text: &[u8]) -> Result<Vec<NumberedLine<'_>>, L
     Ok(read.lines)
 }
 
-/// The lines that are read so far.
+/// The lines read so far.
 #[derive(Drop)]
 pub(crate) struct LinesRead<'a> {
     pub lines: Vec<NumberedLine<'a>>,
-    /// Room for the parameters of a line.
+    /// Scratch space for the parameters of a line.
     pub params: Vec<u8>,
 }
 
-/// Reads the first unfolded line of what is left of a text, and returns what is left after it. `utf8` says that the
-/// text as a whole is UTF-8.
+/// Reads the first unfolded line of what is left of a text, and returns what is left after it. `utf8` says whether the
+/// whole text is UTF-8.
 fn read_next<'a>(
     alloc: Global,
     left: Rest<'a>,
@@ -91,7 +91,7 @@ fn read_next<'a>(
     }
 }
 
-/// Reads an unfolded line, which begins in the physical line of this number, and appends it; an empty one is left out.
+/// Parses an unfolded line that begins in physical line `number`, and appends it. An empty one is left out.
 fn push_line<'a>(
     alloc: Global,
     number: usize,
@@ -122,7 +122,7 @@ fn push_line<'a>(
     Ok(())
 }
 
-/// Whether a line is UTF-8. An unfolded line may be where the text as a whole is not, but not the other way round.
+/// Whether a line is UTF-8. An unfolded line may be UTF-8 where the whole text is not, but not the other way round.
 fn is_line_utf8(line: &[u8], whole: bool) -> bool
     requires { IsTrue whole → IsUtf8 line.now }
     ensures { IsTrue result ↔ IsUtf8 line.now }

@@ -19,13 +19,13 @@ pub(crate) struct Rest<'a> {
 /// How a stretch of a text ends, with what is left after it.
 #[derive(Drop)]
 pub(crate) enum End<'a> {
-    /// With a fold: a line break and one blank.
+    /// At a fold: a line break and one blank.
     Fold(Rest<'a>),
-    /// With a line break, or with the text.
+    /// At a line break, or at the end of the text.
     Line(Option<Rest<'a>>),
 }
 
-/// What stands before the first LF, and what stands behind it.
+/// What comes before the first LF, and what comes after it. `None` if there is no LF.
 pub fn cut_lf(text: &[u8]) -> Option<(&[u8], &[u8])>
     ensures { MatchOption result (HasNoLf text.now)
         (λ p. HasNoLf p.0.now × (text.now ≡ p.0.now ++ 10 ∷ p.1.now)) }
@@ -37,7 +37,7 @@ pub fn cut_lf(text: &[u8]) -> Option<(&[u8], &[u8])>
 fn find_lf(text: &[u8]) -> Option<usize>
     ensures { IsFirstByte (is_byte 10) text.now result }
 {
-    // A search costs more than these octets, and a text may be nothing but empty lines or folds.
+    // Looking at these octets is cheaper than a search, and a text may be nothing but empty lines or folds.
     match text {
         [b'\n', ..] => Some(0),
         [_, b'\n', ..] => Some(1),
@@ -45,7 +45,7 @@ fn find_lf(text: &[u8]) -> Option<usize>
     }
 }
 
-/// A stretch that LF ends, without a CR before that LF.
+/// A stretch that LF ends, without the CR before that LF, if any.
 fn strip_cr(stretch: &[u8]) -> &[u8]
     ensures { StripsCr stretch.now result.now }
 {
@@ -55,7 +55,7 @@ fn strip_cr(stretch: &[u8]) -> &[u8]
     }
 }
 
-/// The stretch before the first line break, and what stands behind that break.
+/// The stretch before the first line break, and what follows that break.
 fn cut_break(text: &[u8]) -> (&[u8], Option<&[u8]>)
     ensures stretches { stretches_of text.now ≡ result.0.now ∷ stretches_behind result.1 }
     ensures shorter { length_behind result.1 < length text.now + 1 }
@@ -66,7 +66,7 @@ fn cut_break(text: &[u8]) -> (&[u8], Option<&[u8]>)
     }
 }
 
-/// What stands behind the blank, where a text begins with one.
+/// What follows the blank, if a text begins with one.
 fn strip_blank(text: &[u8]) -> Option<&[u8]>
     ensures { MatchOption result (LacksBlank text.now) (λ more. BeginsWithBlank text.now more.now) }
 {
@@ -101,7 +101,7 @@ pub(crate) fn cut_stretch(rest: Rest<'_>) -> (&[u8], End<'_>)
     }
 }
 
-/// The line that begins with a stretch and goes on, after a fold, with `more`; and what is left after it.
+/// The line that begins with a stretch and continues, after a fold, with `more`; and what is left after it.
 pub(crate) fn unfold<'a>(
     alloc: Global,
     stretch: &[u8],

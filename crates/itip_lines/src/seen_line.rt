@@ -1,4 +1,4 @@
-//! A content line where it stands.
+//! A content line in the text that it was read from.
 ghost use Rattle.std.specs.Prelude.{◌≡◌, IfOk};
 ghost use Rattle.std.specs.List.{AllByRecursion};
 ghost use Rattle.itip_lines.specs.Lawful.{params_text, IsLawfulParam};
@@ -17,16 +17,16 @@ use std::alloc::{AllocError, Global};
 use std::fmt;
 use std::marker::Model;
 
-/// A content line (RFC 5545 3.1) where it stands in the text that it is read of.
+/// A content line (RFC 5545 3.1), borrowed where possible from the text that it was read from.
 ///
-/// Its octets are those of the line as it is written without folds. Where the text has them so, they stand in it, and the line
-/// takes no memory: one that is folded, has letters of its names in lower case, or quotes that no value needs has memory of its own.
+/// Its octets are those of the line as it is written without folds. If the text has exactly these octets, the line borrows them and
+/// does not allocate. A line that is folded, has lower-case letters in its names, or has quotes that no value needs owns its octets.
 #[derive(Drop)]
 pub struct SeenLine<'a> {
     octets: LineOctets<'a>,
-    /// How many octets the name has.
+    /// The length of the name, in octets.
     name: u32,
-    /// Where the value begins.
+    /// The offset of the value, in octets.
     value: u32,
     ghost stands: { IsLineAt (octets_of octets) name value } by { IsLineAt-prop (octets_of octets) name value },
 }
@@ -49,7 +49,7 @@ impl<'a> Model for SeenLine<'a> {
 impl<'a> SeenLine<'a> {
     ghost use Rattle.itip_lines.specs.declared.line.Line.{Line};
 
-    /// The line of these octets, of whose name there are so many, and whose value begins there.
+    /// The line in these octets: its name has `name` octets, and its value begins at offset `value`.
     pub(crate) fn new(octets: LineOctets<'a>, name: usize, value: usize) -> SeenLine<'a>
         requires { IsLineAt (octets_of octets) name value }
         ensures { (line : Line) → octets_of octets.entry ≡ unfolded_text line → result ≡ line }
@@ -61,7 +61,7 @@ impl<'a> SeenLine<'a> {
         }
     }
 
-    /// A copy of a line, as it is written.
+    /// A copy of a line, with octets of its own.
     pub fn copy(alloc: Global, line: &Line) -> Result<SeenLine<'static>, AllocError>
         ensures { IfOk result (λ copy. copy ≡ line.now) }
     {
@@ -79,7 +79,7 @@ impl<'a> SeenLine<'a> {
         Ok(SeenLine::new(LineOctets::Own(octets), name, value))
     }
 
-    /// The line as it is written, without folds and break.
+    /// The line as it is written, without folds and line break.
     pub fn as_str(&self) -> &str
         ensures { result.now ≡ unfolded_text self.now }
     {
@@ -108,7 +108,7 @@ impl<'a> SeenLine<'a> {
         unsafe { str::from_utf8_unchecked(name) }
     }
 
-    /// The text of the parameters as it is written, each behind its `;`.
+    /// The parameters as they are written, each with its leading `;`.
     pub fn params(&self) -> &str
         ensures text { result.now ≡ params_text self.now.params }
         ensures lawful { AllByRecursion IsLawfulParam self.now.params }
@@ -125,22 +125,22 @@ impl<'a> SeenLine<'a> {
         unsafe { str::from_utf8_unchecked(value) }
     }
 
-    /// Whether there is a parameter of this name, which is in upper case. It takes no memory.
+    /// Whether there is a parameter with this name, given in upper case. Does not allocate.
     pub fn has_param(&self, name: &str) -> bool
         ensures { result ≡ has_param name.now self.now.params }
     {
         values_of(name, self.params().as_bytes()).is_some()
     }
 
-    /// The first value of the first parameter of this name, which is in upper case; empty where there is none. It takes
-    /// no memory.
+    /// The first value of the first parameter with this name, given in upper case; empty if there is none. Does not
+    /// allocate.
     pub fn first_value(&self, name: &str) -> &str
         ensures { result.now ≡ param_value name.now self.now.params }
     {
         param_value(self.params(), name)
     }
 
-    /// The same line in memory of its own.
+    /// The same line, owning its octets.
     pub fn into_own(self, alloc: Global) -> Result<SeenLine<'static>, AllocError>
         ensures { IfOk result (λ own. own ≡ self.entry) }
     {
@@ -150,7 +150,7 @@ impl<'a> SeenLine<'a> {
         Ok(SeenLine::new(octets, name, value))
     }
 
-    /// A copy of the line, each part in memory of its own.
+    /// Copies the line into a `Line`, which owns each part.
     pub fn to_line(&self, alloc: Global) -> Result<Line, AllocError>
         ensures { IfOk result (λ line. line ≡ self.now) }
     {

@@ -1,6 +1,5 @@
-//! Text as a clause sees it: its octets.
-ghost use Rattle.std.specs.Prelude.{◌≡◌, [], IfOk, IsOk, map, nat_eq, refl, Some};
-ghost use Rattle.std.specs.Char.{to_ascii_uppercase, to_ascii_lowercase};
+//! UTF-8 text, which contracts see as its octets.
+ghost use Rattle.std.specs.Prelude.{◌≡◌, [], IfOk, IsOk, nat_eq, refl, Some};
 ghost use Rattle.std.specs.Ordering.{nat_cmp};
 ghost use Rattle.std.specs.Str.{IsUtf8, str_to_ascii_uppercase, str_to_ascii_lowercase};
 ghost use Rattle.std.specs.Cmp.Lexicographic.{pointwise, slice_cmp, nat_list_eq_equiv, nat_list_cmp_total, texts_ties, texts_po};
@@ -17,10 +16,10 @@ use std::fmt;
 use std::hash::{Hash, Hasher};
 use std::marker::Model;
 
-/// A text in UTF-8, compared by its octets.
+/// A UTF-8 text, compared by its bytes.
 ///
-/// One of at most 32 octets stands in the value itself and takes no memory of its own: most names, times and addresses. To
-/// copy it takes none either, whatever becomes of its letters' case.
+/// A text of at most 32 bytes, as most names, times and addresses are, is stored inline: it takes no other memory, and to copy it
+/// takes none either.
 #[derive(Drop)]
 pub struct Text {
     octets: SmallVec<u8, 32>,
@@ -47,9 +46,9 @@ impl Text {
         }
     }
 
-    /// A copy of a text.
+    /// Copies a text.
     ///
-    /// It is refused memory only where the text doesn't stand in its value.
+    /// Returns an error if an allocation fails; a text of at most 32 bytes needs none.
     pub fn copy(alloc: Global, text: &str) -> Result<Text, AllocError>
         ensures copied { IfOk result (λ copy. copy ≡ text.now) }
         ensures room { StandsInPlace text.now → IsOk result }
@@ -58,54 +57,30 @@ impl Text {
         Ok(Text { octets })
     }
 
-    /// A copy of a text, its ASCII letters in upper case.
-    ///
-    /// It is refused memory only where the text doesn't stand in its value.
-    pub fn upper(alloc: Global, text: &str) -> Result<Text, AllocError>
-        ensures raised { IfOk result (λ upper. upper ≡ str_to_ascii_uppercase text.now) }
-        ensures room { StandsInPlace text.now → IsOk result }
+    /// Converts its ASCII letters to upper case in place. Does not allocate.
+    pub fn make_ascii_uppercase(&mut self)
+        ensures { self.new ≡ str_to_ascii_uppercase self.old }
     {
-        let mut octets = SmallVec::from_slice(alloc, text.as_bytes())?;
-        raise(&mut octets);
-        Ok(Text { octets })
+        self.octets.as_mut_slice().make_ascii_uppercase();
     }
 
-    /// A copy of a text, its ASCII letters in lower case.
-    ///
-    /// It is refused memory only where the text doesn't stand in its value.
-    pub fn lower(alloc: Global, text: &str) -> Result<Text, AllocError>
-        ensures lowered { IfOk result (λ lower. lower ≡ str_to_ascii_lowercase text.now) }
-        ensures room { StandsInPlace text.now → IsOk result }
+    /// Converts its ASCII letters to lower case in place. Does not allocate.
+    pub fn make_ascii_lowercase(&mut self)
+        ensures { self.new ≡ str_to_ascii_lowercase self.old }
     {
-        let mut octets = SmallVec::from_slice(alloc, text.as_bytes())?;
-        lower(&mut octets);
-        Ok(Text { octets })
+        self.octets.as_mut_slice().make_ascii_lowercase();
     }
 
     /// The text.
     pub fn as_str(&self) -> &str
         ensures { result.now ≡ self.now }
     {
-        // The invariant: the octets are UTF-8.
+        // By the invariant the octets are UTF-8.
         unsafe { str::from_utf8_unchecked(self.octets.as_slice()) }
     }
 }
 
-/// Turns ASCII letters to upper case, where they stand.
-fn raise(octets: &mut SmallVec<u8, 32>)
-    ensures { octets.new.items ≡ map to_ascii_uppercase octets.old.items }
-{
-    octets.as_mut_slice().make_ascii_uppercase();
-}
-
-/// Turns ASCII letters to lower case, where they stand.
-fn lower(octets: &mut SmallVec<u8, 32>)
-    ensures { octets.new.items ≡ map to_ascii_lowercase octets.old.items }
-{
-    octets.as_mut_slice().make_ascii_lowercase();
-}
-
-/// A text that stands in its value is cloned without any memory.
+/// Cloning a text of at most 32 bytes does not allocate, and so cannot fail.
 impl Clone for Text {
     ghost is_clone = { λ text copy. copy ≡ text };
 

@@ -1,4 +1,4 @@
-//! Texts that stand in one piece of memory.
+//! Texts stored in one block of memory.
 ghost use Rattle.std.specs.Prelude.{◌≡◌, ◌↔◌, ◌∷◌, ◌++◌, [], ℕ, List, IsTrue, IfOk, OnOk, OnErr, MatchOption, count_by, length};
 ghost use Rattle.std.specs.List.{AllByRecursion};
 ghost use Rattle.itip_lines.specs.Joining.{is_break, joined, texts_in, IsOneLine, AreJoined};
@@ -10,9 +10,9 @@ use std::alloc::{AllocError, Global};
 use std::fmt;
 use std::marker::Model;
 
-/// Texts in order, of which none has a line feed.
+/// Texts in order, none of which has a line feed.
 ///
-/// They have no values of their own: they stand in one piece of memory, each with LF behind it. A copy has no spare room.
+/// They are stored one after another in one block of memory, each followed by LF. A copy has no spare capacity.
 #[derive(Drop)]
 pub struct TextList {
     octets: Bytes,
@@ -31,14 +31,14 @@ impl Model for TextList {
 }
 
 impl TextList {
-    /// No text. It takes no memory.
+    /// The empty list. Does not allocate.
     pub fn new(alloc: Global) -> TextList
         ensures { result ≡ [] }
     {
         TextList::from_octets(Vec::new(alloc))
     }
 
-    /// Copies of these texts.
+    /// Copies these texts into a list.
     pub fn copy(alloc: Global, texts: &[Text]) -> Result<TextList, AllocError>
         requires { AllByRecursion IsOneLine texts.now }
         ensures { IfOk result (λ copy. copy ≡ texts.now) }
@@ -50,7 +50,7 @@ impl TextList {
         Ok(TextList::from_octets(octets))
     }
 
-    /// The texts of these octets, each with LF behind it. The spare room of their memory is given back.
+    /// The texts in these octets, each followed by LF. Spare capacity is released.
     pub(crate) fn from_octets(mut octets: Vec<u8>) -> TextList
         requires { AreJoined octets.items }
         ensures { (texts : List (List ℕ)) → AllByRecursion IsOneLine texts → octets.items ≡ joined texts → result ≡ texts }
@@ -61,7 +61,7 @@ impl TextList {
         }
     }
 
-    /// Adds a text. Where memory is refused the list stays as it was.
+    /// Appends a text. If an allocation fails, the list is left unchanged.
     pub fn push(&mut self, text: &str) -> Result<(), AllocError>
         requires { IsOneLine text.now }
         ensures pushed { OnOk result (self.new ≡ self.old ++ text.now ∷ []) }
@@ -70,22 +70,22 @@ impl TextList {
         self.octets.push_text(text.as_bytes())
     }
 
-    /// The same texts, without spare room.
+    /// The same texts, without spare capacity.
     pub fn exact(self) -> TextList
         ensures { result ≡ self }
     {
         TextList::from_octets(self.octets.into_vec())
     }
 
-    /// The texts as they stand, each with LF behind it.
+    /// The texts as they are stored, each followed by LF.
     fn as_str(&self) -> &str
         ensures { texts_in result.now ≡ self.now }
     {
-        // The invariant: the texts are UTF-8, and so is LF.
+        // By the invariant the texts are UTF-8, and so is LF.
         unsafe { str::from_utf8_unchecked(self.octets.as_slice()) }
     }
 
-    /// The texts, one after the other.
+    /// An iterator over the texts.
     pub fn iter(&self) -> Texts<'_>
         ensures { texts_left result ≡ self.now }
     {
@@ -94,14 +94,14 @@ impl TextList {
         }
     }
 
-    /// How many texts there are. It takes no memory, and goes through all texts.
+    /// The number of texts. Goes through all of them, without allocating.
     pub fn len(&self) -> usize
         ensures { result ≡ length self.now }
     {
         breaks(self.octets.as_slice())
     }
 
-    /// Whether there is none.
+    /// Whether the list is empty.
     pub fn is_empty(&self) -> bool
         ensures { IsTrue result ↔ (length self.now ≡ 0) }
     {
@@ -109,14 +109,14 @@ impl TextList {
     }
 }
 
-/// How many LF there are.
+/// The number of line feeds.
 fn breaks(octets: &[u8]) -> usize
     ensures { result ≡ count_by is_break octets.now }
 {
     octets.iter().filter(|octet| **octet == b'\n').count()
 }
 
-/// What stands before and behind the first LF.
+/// What comes before and after the first LF.
 fn cut_text(text: &str) -> Option<(&str, &str)>
     ensures { MatchOption result (texts_in text.now ≡ []) (λ p. texts_in text.now ≡ p.0.now ∷ texts_in p.1.now) }
 {
@@ -138,7 +138,7 @@ impl fmt::Debug for TextList {
     }
 }
 
-/// The texts of a list, one after the other.
+/// An iterator over the texts of a list.
 #[derive(Drop)]
 pub struct Texts<'a> {
     rest: &'a str,

@@ -11,14 +11,14 @@ use crate::line::Line;
 use crate::params::Params;
 use std::alloc::AllocError;
 
-/// The most octets of a piece of a line, without its break (RFC 5545 3.1).
+/// The maximum length of a piece of a line without its break, in octets (RFC 5545 3.1).
 const PIECE: usize = 75;
 
-/// Appends a line with its breaks (RFC 5545 3.1).
+/// Appends a line with its folds and line breaks (RFC 5545 3.1).
 ///
-/// A value of a parameter stands in quotes where it has `;`, `:` or `,`. A piece has at most 75 octets before
-/// its CRLF, as many as fit without cutting a UTF-8 sequence, and each but the first begins with one SPACE.
-/// Where memory is refused `out` stays as it was. It is asked for only where `out` has no room for the line.
+/// A parameter value is in quotes if it has `;`, `:` or `,`. A piece has at most 75 octets before its CRLF, as many as
+/// fit without splitting a UTF-8 sequence, and each piece but the first begins with one SPACE.
+/// If an allocation fails, `out` is left unchanged. Nothing is allocated if `out` has room for the line.
 #[tactic(auto, unfolding(crate::specs::Writing::written, crate::specs::Writing::unfolded_text))]
 pub fn write_line(line: &Line, out: &mut Vec<u8>) -> Result<(), AllocError>
     ensures appended { OnOk result (out.new.items ≡ out.old.items ++ written line.now) }
@@ -34,7 +34,7 @@ pub fn write_line(line: &Line, out: &mut Vec<u8>) -> Result<(), AllocError>
     )
 }
 
-/// Appends the line of a name, parameters and a value, with its breaks.
+/// Appends the line made of a name, parameters and a value, with its breaks.
 fn write_property(
     name: &str,
     params: &Params,
@@ -49,10 +49,10 @@ fn write_property(
     write_parts(name, params.as_str().as_bytes(), value, out)
 }
 
-/// Appends the line of a name, parameters and a value, with its breaks, as `write_line` does (RFC 5545 3.1).
+/// Appends the line made of a name, parameters and a value, with its breaks, as `write_line` does (RFC 5545 3.1).
 ///
-/// `params` is the text of the parameters, as `Params::as_str` gives it or `write_param` makes it; empty where there is none.
-/// Where memory is refused `out` stays as it was. It is asked for only where `out` has no room for the line.
+/// `params` is the text of the parameters, as `Params::as_str` returns it or `write_param` appends it; empty if there are none.
+/// If an allocation fails, `out` is left unchanged. Nothing is allocated if `out` has room for the line.
 pub fn write_parts(
     name: &str,
     params: &[u8],
@@ -72,7 +72,7 @@ pub fn write_parts(
     done
 }
 
-/// Appends a line with its breaks; where memory is refused, perhaps a part of it.
+/// Appends a line with its breaks. If an allocation fails, a part of it may have been appended.
 fn write_all(name: &str, params: &[u8], value: &[u8], out: &mut Vec<u8>) -> Result<(), AllocError>
     ensures appended { OnOk result (out.new.items ≡ out.old.items ++ folded 0 (name.now ++ (params.now ++ 58 ∷ value.now))) }
     ensures extends { Extends out.old.items out.new.items }
@@ -86,9 +86,9 @@ fn write_all(name: &str, params: &[u8], value: &[u8], out: &mut Vec<u8>) -> Resu
     out.extend_from_slice(b"\r\n")
 }
 
-/// Appends a line with its breaks, where `text` is the line without them and without folds.
+/// Appends a line with its breaks. `text` is the line without folds and line break.
 ///
-/// Where memory is refused, perhaps a part of it is appended. It is asked for only where `out` has no room for the line.
+/// If an allocation fails, a part of the line may have been appended. Nothing is allocated if `out` has room for it.
 pub fn write_text(text: &str, out: &mut Vec<u8>) -> Result<(), AllocError>
     ensures appended { OnOk result (out.new.items ≡ out.old.items ++ folded 0 text.now) }
     ensures room { HasRoomFor out.old (folded 0 text.now) → IsOk result }
@@ -98,10 +98,10 @@ pub fn write_text(text: &str, out: &mut Vec<u8>) -> Result<(), AllocError>
     out.extend_from_slice(b"\r\n")
 }
 
-/// Appends the text of a parameter with one value, without folds: `;`, its name, `=`, and the value, in quotes where it
+/// Appends the text of a parameter with one value, without folds: `;`, its name, `=`, and the value, in quotes if it
 /// has `;`, `:` or `,`.
 ///
-/// Where memory is refused, perhaps a part of it is appended. It is asked for only where `out` has no room for the parameter.
+/// If an allocation fails, a part of the parameter may have been appended. Nothing is allocated if `out` has room for it.
 pub fn write_param(name: &str, value: &str, out: &mut Vec<u8>) -> Result<(), AllocError>
     ensures appended { OnOk result (out.new.items
         ≡ out.old.items ++ params_text ((record { name = name.now; values = value.now ∷ [] }) ∷ [])) }
@@ -114,7 +114,7 @@ pub fn write_param(name: &str, value: &str, out: &mut Vec<u8>) -> Result<(), All
     push_value(value.as_bytes(), out)
 }
 
-/// Appends a value of a parameter without folds, in quotes where it needs them.
+/// Appends a parameter value without folds, in quotes if it needs them.
 pub(crate) fn push_value(value: &[u8], out: &mut Vec<u8>) -> Result<(), AllocError>
     ensures appended { OnOk result (out.new.items ≡ out.old.items ++ value_text value.now) }
     ensures room { HasRoomFor out.old (value_text value.now) → IsOk result }
@@ -135,7 +135,8 @@ fn has_separator(octets: &[u8]) -> bool
     octets.iter().any(|b| is_separator(*b))
 }
 
-/// Appends octets, with a fold before each sequence that would end behind a piece's 75 octets.
+/// Appends octets after `used` octets of a piece, with a fold before each sequence that would end past its 75 octets. Returns the
+/// length of the last piece.
 fn write_octets(octets: &[u8], used: usize, out: &mut Vec<u8>) -> Result<usize, AllocError>
     requires { used ≤ 75 }
     ensures wrote { IfOk result (Writes out.old.items used octets.now out.new.items) }
@@ -143,7 +144,7 @@ fn write_octets(octets: &[u8], used: usize, out: &mut Vec<u8>) -> Result<usize, 
     ensures room { HasRoomFor out.old (folded used octets.now) → IsOk result }
     ensures keeps { KeepsRoom out.old out.new }
 {
-    // Whatever their sequences are, so few octets end on the piece.
+    // Fewer octets fit on the piece, whatever their sequences are.
     if octets.len() >= (PIECE - 2).saturating_sub(used) {
         return write_each(octets, used, out);
     }
@@ -151,7 +152,7 @@ fn write_octets(octets: &[u8], used: usize, out: &mut Vec<u8>) -> Result<usize, 
     Ok(used + octets.len())
 }
 
-/// Appends octets one by one, each behind a fold where it needs one.
+/// Appends octets one by one, each after a fold if it needs one.
 fn write_each(octets: &[u8], mut used: usize, out: &mut Vec<u8>) -> Result<usize, AllocError>
     requires { used ≤ 75 }
     ensures wrote { IfOk result (Writes out.old.items used octets.now out.new.items) }
@@ -165,7 +166,7 @@ fn write_each(octets: &[u8], mut used: usize, out: &mut Vec<u8>) -> Result<usize
     Ok(used)
 }
 
-/// Appends an octet, behind a fold where its sequence would end behind a piece's 75 octets.
+/// Appends an octet, after a fold if its sequence would end past the 75 octets of a piece.
 fn write_octet(octet: u8, used: usize, out: &mut Vec<u8>) -> Result<usize, AllocError>
     requires { used ≤ 75 }
     ensures wrote { IfOk result (Writes out.old.items used (octet ∷ []) out.new.items) }
@@ -181,7 +182,7 @@ fn write_octet(octet: u8, used: usize, out: &mut Vec<u8>) -> Result<usize, Alloc
     Ok(2)
 }
 
-/// How many octets follow in the UTF-8 sequence that the octet begins.
+/// The number of octets that follow in the UTF-8 sequence that the octet begins, 0 if it begins none.
 fn following(octet: u8) -> usize
     ensures { result ≡ following octet }
 {

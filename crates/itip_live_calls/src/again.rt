@@ -1,6 +1,5 @@
-//! Calls of which one request for memory may be refused. Where it is, they say so, see that nothing has changed, and make
-//! the call once more. So the answer is that of an undisturbed run, or the run ends out of memory where the request was
-//! beside the call.
+//! Calls in which one allocation may fail. If it does, they say so, check that nothing has changed, and make the call once more. So the
+//! answer is that of an undisturbed run; or the run ends out of memory, if the allocation was not one of the call.
 
 use crate::crossing::{run_again, steps_again};
 use crate::desks::{list_again, list_for_again, since_again, take_again};
@@ -41,7 +40,7 @@ fn of_one<R: AllocGlobal + Eprint>(
     }
 }
 
-/// Calls with several.
+/// Calls with several arguments.
 fn of_more<R: AllocGlobal + Eprint>(
     rt: &R,
     word: &str,
@@ -68,7 +67,7 @@ fn join<R: AllocGlobal + Eprint>(
     }
 }
 
-/// The calls by which two desks cross.
+/// The calls in which two desks cross.
 fn cross<R: AllocGlobal + Eprint>(
     rt: &R,
     word: &str,

@@ -14,7 +14,7 @@ use std::thread::{Threads, join_mut};
 /// How many passes there are.
 const PASSES: usize = 8;
 
-/// Publishes so many batches beside eight passes, and tells how many were published, and how many passes saw what they had to.
+/// Publishes `batches` batches beside eight passes, and tells how many were published, and how many passes saw what they had to.
 pub(crate) fn beside<R: AllocGlobal + Threads + Wait + Sync>(
     rt: &R,
     batches: u64,

@@ -22,7 +22,7 @@ impl Call<'_> {
     }
 }
 
-/// The octets that an argument stands for: `-` for none, else two digits for each.
+/// The bytes that an argument stands for: `-` for none, else two hexadecimal digits for each.
 fn octets_of(alloc: Global, part: &str) -> Result<Vec<u8>, CallError> {
     if part == "-" {
         return Ok(Vec::new(alloc));

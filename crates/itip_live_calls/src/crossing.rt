@@ -28,7 +28,7 @@ fn deliver(alloc: Global, desk: usize, text: &[u8]) -> Result<Event, CallError> 
     })
 }
 
-/// All that the world shows after the events, each done once more where an allocation failed.
+/// All that the world shows after the events, each done once more if an allocation failed.
 pub(crate) fn steps_again<R: AllocGlobal + Eprint>(
     rt: &R,
     one: &[u8],
@@ -69,7 +69,7 @@ fn step<R: AllocGlobal + Eprint>(
     Err(CallError::NothingOnceMore)
 }
 
-/// Does an event, and says whether there was memory for it.
+/// Does an event, and returns whether there was memory for it.
 fn is_done(world: &mut World, event: &Event) -> Result<bool, CallError> {
     match world.step(event) {
         Ok(_) => Ok(true),
@@ -78,8 +78,8 @@ fn is_done(world: &mut World, event: &Event) -> Result<bool, CallError> {
     }
 }
 
-/// All that the world shows after the events. Where an allocation failed the run stops, and the outcomes are those of the whole run by
-/// then.
+/// All that the world shows after the events. If an allocation fails, the run stops, and its outcomes have to be the first ones of the
+/// whole run.
 pub(crate) fn run_again<R: AllocGlobal + Eprint>(
     rt: &R,
     one: &[u8],

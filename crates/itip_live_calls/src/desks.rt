@@ -1,4 +1,4 @@
-//! Calls of a desk, once more where memory is refused.
+//! Calls of a desk, made once more if an allocation fails.
 
 use crate::error::CallError;
 use crate::picture::picture;
@@ -7,7 +7,7 @@ use crate::texts::{batch, desk_after, window};
 use itip_desk::{Batch, Desk, DeskError, write_delta};
 use itip_view::{ViewError, Window};
 
-/// All that a desk shows that has taken these messages, the last of them once more where memory is refused.
+/// All that a desk shows that has taken these messages, the last of them once more if an allocation failed.
 pub(crate) fn take_again<R: AllocGlobal + Eprint>(
     rt: &R,
     texts: &[Vec<u8>],
@@ -60,7 +60,7 @@ fn take<R: AllocGlobal + Eprint>(rt: &R, desk: &mut Desk, batch: &Batch) -> Resu
     Err(CallError::NothingOnceMore)
 }
 
-/// Takes a batch, and says whether there was memory for it.
+/// Takes a batch, and returns whether there was memory for it.
 fn is_taken(desk: &mut Desk, batch: &Batch) -> Result<bool, CallError> {
     match desk.take(batch) {
         Ok(_) => Ok(true),
@@ -69,7 +69,7 @@ fn is_taken(desk: &mut Desk, batch: &Batch) -> Result<bool, CallError> {
     }
 }
 
-/// The octets of the delta since a tick.
+/// The bytes of the delta since a tick of a desk that has taken these messages.
 pub(crate) fn since_again<R: AllocGlobal + Eprint>(
     rt: &R,
     tick: u64,

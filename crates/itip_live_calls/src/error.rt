@@ -1,4 +1,4 @@
-//! Why a call gives no value.
+//! Why a call returns no value.
 
 use hex::FromHexError;
 use itip_desk::{DeskError, Refusal};
@@ -11,9 +11,9 @@ use itip_world::Cause;
 use std::alloc::{AllocError, AllocFailed, Global};
 use std::io;
 
-/// Why a call gives no value: a fault, which is its answer, or what ends the run.
+/// Why a call returns no value: a fault, which is its answer, or what ends the run.
 ///
-/// Of the errors of the crates below only the names are kept. To keep the errors would have their drops proved anew here.
+/// Only the names of the errors of the crates below are kept. To keep the errors would have their drops proved again here.
 #[derive(Clone, Copy)]
 pub(crate) enum CallError {
     NoMemory,
@@ -24,7 +24,7 @@ pub(crate) enum CallError {
     NoSuchCall,
     /// A refusal changed something.
     Changed,
-    /// A call that was refused memory gave nothing when it was made once more, with memory.
+    /// A call in which an allocation failed returned nothing when it was made once more, with memory.
     NothingOnceMore,
     BadMessage,
     BadWindow,
@@ -66,7 +66,7 @@ impl CallError {
         }
     }
 
-    /// The fault as an answer. What ends the run is given back.
+    /// The fault as an answer. What ends the run is returned as the error.
     pub(crate) fn into_answer(self, alloc: Global) -> Result<Vec<u8>, CallError> {
         match self {
             CallError::NoMemory | CallError::Io | CallError::Line => Err(self),

@@ -1,4 +1,4 @@
-//! Gates that hold workers and keepers, so that what they do stands in an order.
+//! Gates that hold workers and keepers, so that what they do happens in a known order.
 
 use crate::error::CallError;
 use crate::texts::{number_of, text};
@@ -7,7 +7,7 @@ use std::alloc::Global;
 use std::sync::atomic::{AtomicU64, Ordering};
 use std::thread;
 
-/// How often a gate looks whether a job is done, before it is closed.
+/// How often a gate checks whether a job is done before it counts as closed.
 const TURNS: u64 = 10_000_000;
 
 /// The gate that holds nobody.

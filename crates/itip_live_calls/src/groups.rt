@@ -14,8 +14,8 @@ use std::thread::{Threads, join_mut};
 /// How many batches are published at once.
 const AT_ONCE: u64 = 3;
 
-/// Publishes so often, and tells how many batches were published, and whether each pass saw what it was told of, and always all of some
-/// publishes.
+/// Publishes `publishes` times, and tells how many batches were published, whether each pass saw what it was told of and always whole
+/// publishes, and whether it ended with such.
 pub(crate) fn grouped<R: AllocGlobal + Threads + Wait + Sync>(
     rt: &R,
     publishes: u64,
@@ -32,14 +32,14 @@ pub(crate) fn grouped<R: AllocGlobal + Threads + Wait + Sync>(
     )?.into_bytes())
 }
 
-/// What came of a pair that ran: whether each pass saw what it was told of, and what it ended with.
+/// What came of a pair that ran: whether each pass saw what it was told of and always whole publishes, and what the pair ended with.
 #[derive(Clone, Copy)]
 struct Ran {
     is_right: bool,
     ended: Meeting,
 }
 
-/// How many batches were published, and whether each pass saw all of some publishes.
+/// How many batches were published, and whether each pass had seen whole publishes in the end.
 #[derive(Clone, Copy)]
 struct Meeting {
     published: u64,
@@ -60,7 +60,7 @@ fn started<R: AllocGlobal + Threads + Wait + Sync>(
     }
 }
 
-/// The keeper and the passes of the pair that the type names run, and meet.
+/// Runs the keeper and the passes of the pair that the type names, and has them meet.
 fn told<N: Naming + Send + Sync, R: AllocGlobal + Threads + Wait + Sync>(
     rt: &R,
     keeper: Keeper,
@@ -78,7 +78,7 @@ fn told<N: Naming + Send + Sync, R: AllocGlobal + Threads + Wait + Sync>(
     Ok(Ran { is_right, ended })
 }
 
-/// The two passes meet their keeper.
+/// Has the two passes meet their keeper.
 fn end<R: AllocGlobal + Wait>(
     rt: &R,
     keeper: Keeper,
@@ -189,7 +189,7 @@ fn listen_both<N: Naming + Send + Sync, R: Threads + Wait + Sync>(
     one && other
 }
 
-/// Learns what comes until the channel ends, and says whether all was right.
+/// Learns what comes until the channel ends, and returns whether all was right.
 fn listen<N: Naming, R: Wait>(rt: &R, pass: &mut Pass, from: &Receiver<NamedReceipt<N>>) -> bool
     requires pair { pass_pair pass.old ≡ N.pair }
     ensures pair { pass_pair pass.new ≡ N.pair }
@@ -204,7 +204,7 @@ fn listen<N: Naming, R: Wait>(rt: &R, pass: &mut Pass, from: &Receiver<NamedRece
     unreachable!()
 }
 
-/// Whether the pass has seen what the receipt tells once it has learnt it, and no less once it has listed, and always all of some publishes.
+/// Whether the pass has seen what the receipt tells once it has learnt it, no less once it has listed, and always whole publishes.
 fn is_told(pass: &mut Pass, receipt: Receipt) -> bool
     requires pair { receipt_pair receipt ≡ pass_pair pass.old }
     ensures pair { pass_pair pass.new ≡ pass_pair pass.old }

@@ -1,4 +1,4 @@
-//! Joins of values of each type, once more where memory is refused.
+//! Joins of values of each type, made once more if an allocation fails.
 
 use crate::error::CallError;
 use crate::refusal::note_refusal;

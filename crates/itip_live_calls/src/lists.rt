@@ -9,7 +9,7 @@ use std::alloc::Global;
 /// How many to-dos the batches are about.
 const TO_DOS: u64 = 20;
 
-/// A revision of one of the to-dos, of which no two are alike.
+/// A revision of one of the to-dos; no two are alike.
 pub(crate) fn revision(alloc: Global, number: u64) -> Result<Batch, CallError> {
     let to_do = number % TO_DOS;
     let message = format!(in alloc;
@@ -18,7 +18,7 @@ pub(crate) fn revision(alloc: Global, number: u64) -> Result<Batch, CallError> {
     batch(alloc, message.as_bytes())
 }
 
-/// The lists of the desks that have taken no revision, the first, the first two, and so on.
+/// The lists of the desks that have taken no revision, the first, the first two, and so on up to `count`.
 pub(crate) fn lists(alloc: Global, count: u64, window: Window) -> Result<Vec<Vec<u8>>, CallError> {
     let mut desk = Desk::empty_at(alloc, 0);
     let mut lists = Vec::new(alloc);

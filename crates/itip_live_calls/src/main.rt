@@ -1,9 +1,9 @@
-//! Makes calls with threads, and calls of which a request for memory may be refused, and shows what they answer.
+//! Makes calls that use threads, and calls in which an allocation may fail, and shows what they answer.
 //!
-//! A line of standard input is a call: its word, and after it the arguments in hexadecimal (`-` for an empty one), with a
-//! blank before each. A line of standard output is the answer to it, in hexadecimal. A fault is an answer too, by its name,
-//! and so is `no such call`. `tools/calls` sends the calls of `examples/calls/itip_live_calls` and compares what is answered,
-//! and `tools/refusals` those of `examples/refusals/itip_live_calls`.
+//! A line of standard input is a call: its word, and after it the arguments in hexadecimal (`-` for an empty one), with a blank before
+//! each. A line of standard output is the answer, in hexadecimal. A fault is an answer too, by its name, and so is `no such call`.
+//! `tools/calls` sends the calls of `examples/calls/itip_live_calls` and compares the answers, and `tools/refusals` those of
+//! `examples/refusals/itip_live_calls`.
 //!
 //! It is proved at each landing, so values are few and short-lived, and each call is a small function.
 #![tactic(auto)]
@@ -61,7 +61,7 @@ fn run<R: AllocGlobal + Input + Print + Eprint + Threads + Wait + Copy + Send + 
     Ok(())
 }
 
-/// What the call of a line answers.
+/// The answer to the call of a line.
 fn answer<R: AllocGlobal + Eprint + Threads + Wait + Copy + Send + Sync + 'static>(
     rt: &R,
     line: &str,

@@ -1,4 +1,4 @@
-//! Jobs on threads, whose workers and keepers a gate holds.
+//! Jobs on threads, under a gate that holds workers and keepers.
 ghost use Rattle.std.specs.Prelude.{◌≡◌};
 ghost use Rattle.itip_running.specs.Ends.{pass_pair};
 
@@ -129,13 +129,13 @@ fn outcome_line(alloc: Global, number: u64, outcome: &Outcome) -> Result<String,
     })
 }
 
-/// A worker that has a text for a keeper who takes nothing.
+/// Runs a worker that has a job for a keeper who takes nothing, and tells how many jobs it answered itself.
 pub(crate) fn deaf_keeper<R: AllocGlobal + Wait>(rt: &R, job: &[u8]) -> Result<Vec<u8>, CallError> {
     let answered = answered(rt, job_of(rt.alloc(), job)?)?;
     Ok(format!(in rt.alloc(); "{answered}")?.into_bytes())
 }
 
-/// How many jobs are answered, of one.
+/// How many jobs are answered, out of one.
 fn answered<R: AllocGlobal + Wait>(rt: &R, job: Job) -> Result<usize, CallError> {
     let (keeper, mut passes) = start_desk(rt, 1)?;
     let answered = match passes.pop() {
@@ -146,7 +146,7 @@ fn answered<R: AllocGlobal + Wait>(rt: &R, job: Job) -> Result<usize, CallError>
     answered
 }
 
-/// How many jobs a worker answers itself, of one, with a pass of the pair that the type names.
+/// How many jobs a worker answers itself, out of one, with a pass of the pair that the type names.
 fn answered_alone<N: Pairs, R: AllocGlobal + Wait>(
     rt: &R,
     pass: Pass,

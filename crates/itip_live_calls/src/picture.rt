@@ -1,4 +1,4 @@
-//! All that a desk or a world shows, as octets that can be compared.
+//! All that a desk or a world shows, as bytes that can be compared.
 
 use crate::error::CallError;
 use crate::texts::window;
@@ -7,7 +7,7 @@ use itip_items::Item;
 use itip_world::World;
 use std::alloc::Global;
 
-/// The canonical octets of items, in their order.
+/// The canonical bytes of items, in their order.
 pub(crate) fn octets(alloc: Global, items: &[Item]) -> Result<Vec<u8>, CallError> {
     let mut octets = Vec::new(alloc);
     for item in items {
@@ -16,7 +16,7 @@ pub(crate) fn octets(alloc: Global, items: &[Item]) -> Result<Vec<u8>, CallError
     Ok(octets)
 }
 
-/// The tick of a desk, what changed since each tick, and its list.
+/// The tick of a desk, the number of items that it keeps, what changed since each earlier tick, and its list.
 pub(crate) fn picture(alloc: Global, desk: &Desk) -> Result<Vec<u8>, CallError> {
     let tick = desk.tick();
     let entries = desk.entries();

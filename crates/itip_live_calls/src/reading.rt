@@ -1,4 +1,4 @@
-//! Reading, once more where memory is refused.
+//! Reading, once more if an allocation fails.
 
 use crate::error::CallError;
 use crate::picture::octets;
@@ -10,7 +10,7 @@ use itip_reading::read_all;
 use std::alloc::Global;
 use std::thread::Threads;
 
-/// The canonical octets of the items of a message.
+/// The canonical bytes of the items of a message.
 pub(crate) fn read_again<R: AllocGlobal + Eprint>(
     rt: &R,
     text: &[u8],
@@ -63,8 +63,8 @@ fn came_of(read: &Result<Vec<Item>, ReadError>) -> Outcome {
     }
 }
 
-/// What comes of reading each text, a line each, on many threads. A text that was refused memory leaves the others as they
-/// are alone.
+/// What comes of reading each text on many threads, a line each. If an allocation fails for some of them, the others have to be read as
+/// they are alone.
 pub(crate) fn read_all_again<R: AllocGlobal + Eprint + Threads + Sync>(
     rt: &R,
     texts: &[Vec<u8>],
@@ -94,7 +94,7 @@ fn alone(alloc: Global, text: &[u8]) -> Result<Outcome, CallError> {
     }
 }
 
-/// Reads all texts, and says whether memory was refused to one of them or to the call.
+/// Reads all texts, and returns whether an allocation failed for one of them or for the call.
 fn is_refused<R: AllocGlobal + Threads + Sync>(
     rt: &R,
     texts: &[Vec<u8>],

@@ -15,7 +15,7 @@ use itip_view::Window;
 use std::alloc::Global;
 use std::sync::Wait;
 
-/// A keeper, its two passes, and the receipt that it gave last.
+/// A keeper, its two passes, and its last receipt.
 struct Running {
     keeper: Keeper,
     first: Pass,
@@ -25,7 +25,7 @@ struct Running {
     ghost its_own: { ForSome receipt (λ r. receipt_pair r ≡ keeper_pair keeper) },
 }
 
-/// Takes these steps, then meets, and tells what each gave.
+/// Takes these steps, then meets, and tells what came of each.
 ///
 /// A step is a message, which is submitted, or one of `pending`, `publish`, `learn P`, `list P`, `mine P ADDRESS`, `seen P`,
 /// `since P TICK`, `rows P`, `shown P ADDRESS`, `kept P` and `of P UID`, where P is the pass 0 or 1. The last four tell how many there are.
@@ -75,7 +75,7 @@ fn take_steps<R: AllocGlobal + Eprint + Wait>(
 }
 
 impl Running {
-    /// Submits a batch, once more where it comes back.
+    /// Submits a batch, once more if it comes back.
     fn submit<R: Eprint>(&mut self, rt: &R, batch: Batch) -> Result<(), CallError> {
         let pending = self.keeper.pending();
         let Err(refused) = self.keeper.submit(batch) else {
@@ -110,7 +110,7 @@ impl Running {
         }
     }
 
-    /// A step by which a pass shows something.
+    /// A step in which a pass shows something.
     fn look<R: AllocGlobal + Eprint>(
         &mut self,
         rt: &R,
@@ -136,7 +136,7 @@ impl Running {
         }
     }
 
-    /// Publishes, once more where it is refused; a refusal leaves what is pending.
+    /// Publishes, once more if an allocation fails, which has to leave what is pending.
     fn publish<R: Eprint + Wait>(&mut self, rt: &R) -> Result<(), CallError> {
         let pending = self.keeper.pending();
         match self.keeper.publish(rt) {
@@ -211,7 +211,7 @@ impl Running {
         Ok(delta.as_slice().len() as u64)
     }
 
-    /// The keeper and the passes meet, and what they end with is told.
+    /// Has the keeper and the passes meet, and tells what they end with.
     fn finish<R: AllocGlobal + Wait>(self, rt: &R, told: &mut String) -> Result<(), CallError> {
         let Running {
             keeper,
@@ -280,7 +280,7 @@ fn told(alloc: Global, word: &str, list: &[u8]) -> Result<String, CallError> {
     Ok(format!(in alloc; "{word}\n{list}")?)
 }
 
-/// The list of a pass, asked for once more where memory is refused.
+/// The list of a pass, asked for once more if an allocation fails.
 fn list_again<R: Eprint>(rt: &R, pass: &mut Pass, window: Window) -> Result<Vec<u8>, CallError>
     ensures { pass_pair pass.new ≡ pass_pair pass.old }
 {
@@ -293,7 +293,7 @@ fn list_again<R: Eprint>(rt: &R, pass: &mut Pass, window: Window) -> Result<Vec<
     }
 }
 
-/// The rows of an attendee, asked for once more where memory is refused.
+/// The list of an attendee, asked for once more if an allocation fails.
 fn list_for_again<R: Eprint>(
     rt: &R,
     pass: &mut Pass,
@@ -312,7 +312,7 @@ fn list_for_again<R: Eprint>(
     }
 }
 
-/// The delta of a pass, asked for once more where memory is refused.
+/// The delta of a pass, asked for once more if an allocation fails.
 fn since_again<R: Eprint>(rt: &R, pass: &mut Pass, tick: u64) -> Result<Batch, CallError>
     ensures { pass_pair pass.new ≡ pass_pair pass.old }
 {
@@ -340,7 +340,7 @@ fn add_met(alloc: Global, met: &Met, told: &mut String) -> Result<(), CallError>
     Ok(())
 }
 
-/// The list of a desk that has taken these messages, whose pair is taken apart around the work, and how many batches were published.
+/// The list of a desk that has taken these messages, and how many batches were published. Its pair is taken apart by [`with_desk`].
 pub(crate) fn scoped<R: AllocGlobal + Wait>(
     rt: &R,
     texts: &[Vec<u8>],

@@ -1,4 +1,4 @@
-//! Merging states, once more where memory is refused.
+//! Merging states, once more if an allocation fails.
 
 use crate::error::CallError;
 use crate::picture::octets;
@@ -8,7 +8,7 @@ use itip_message::read_message;
 use itip_state::State;
 use std::alloc::Global;
 
-/// The canonical octets of what two states keep once they are merged: that of the first so many messages and that of the others.
+/// The canonical bytes of what two states keep once they are merged: that of the first `count` messages and that of the others.
 pub(crate) fn merge_again<R: AllocGlobal + Eprint>(
     rt: &R,
     count: u64,

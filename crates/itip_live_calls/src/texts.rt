@@ -39,7 +39,7 @@ fn take_all(alloc: Global, desk: &mut Desk, texts: &[Vec<u8>]) -> Result<(), Cal
     Ok(())
 }
 
-/// Has a desk take a batch, whose news are not asked for.
+/// Has a desk take a batch, and drops what it tells of the change.
 pub(crate) fn take(desk: &mut Desk, batch: &Batch) -> Result<(), CallError> {
     match desk.take(batch) {
         Ok(_) => Ok(()),

@@ -3,10 +3,10 @@
 use itip_running::Pass;
 use itip_view::Window;
 
-/// How often a pass lists at most.
+/// How often a pass lists at most while its keeper publishes.
 const LOOKS: u64 = 1_000_000;
 
-/// A pass, and whether each list so far was that of a beginning of the batches, none shorter than the one before.
+/// A pass, and whether each list so far was that of a prefix of the batches, none shorter than the one before.
 #[derive(Drop)]
 pub(crate) struct Watch {
     pass: Pass,
@@ -21,7 +21,7 @@ impl Watch {
         }
     }
 
-    /// Lists without a pause, until all is seen.
+    /// Lists without a pause, at most [`LOOKS`] times, until all is seen or a list is wrong.
     pub(crate) fn look_on(&mut self, lists: &[Vec<u8>], window: Window) {
         for _ in 0..LOOKS {
             if self.has_seen_all(lists) || !self.is_right {

@@ -1,4 +1,4 @@
--- A message of which only the beginning came, and the few octets that stand for it.
+-- A message of which only the beginning has arrived, and the few bytes that stand in for it.
 use Rattle.std.proofs.Common.{◌≡◌, ◌∙◌, sym, ap, refl, subst, ℕ, zero, suc, ◌+◌, ◌<◌, ◌≤◌, Bool, true, false, cond, ◌&&◌, ◌||◌, not}
 use Rattle.std.proofs.Common.{List, [], ◌∷◌, ◌++◌, length, map, drop, get_or, ◌≢◌, inl, inr, arith, append_assoc, append-nil}
 use Rattle.std.specs.Prelude.{◌==◌, codes}
@@ -70,7 +70,7 @@ groups_differ least (line ∷ lines) ls ms none others same within =
           (append_assoc ms (line ∷ []) lines) goes_on)
     ] refl
 
--- and a line that ends a calendar in the one as in the other stands between
+-- and between them is a line that ends a calendar in the one as in the other
 lines_differ : (least : ℕ) (lines ls ms : List (List ℕ)) (l m : List ℕ) → NoneEnds ls → NoneEnds ms →
     list_all is_empty ls ≡ list_all is_empty ms → ends_calendar l ≡ ends_calendar m → is_empty l ≡ is_empty m →
     least ≤ length (concat (ls ++ l ∷ []))
@@ -91,7 +91,7 @@ lines_differ least lines ls ms l m none others same ends empty within =
 
 -- ---- a line that goes on
 
--- with none of these octets the line ends, where that octet stands behind them
+-- the line ends with none of these bytes, if that byte follows them
 abbrev GoesOn : List ℕ → ℕ → Type 0
 GoesOn [] last = Unit {0}
 GoesOn (b ∷ octets) last = (ends_line b (octets ++ last ∷ []) ≡ false) × GoesOn octets last
@@ -107,12 +107,12 @@ goes_on (b ∷ octets) last whole =
       | false ↦ λ ends h. (ends, goes_on octets last (omega (arith, h)))
     ] refl whole
 
--- whether a line ends is told by the octet behind alone
+-- the next byte alone decides whether a line ends
 same_end : (b : ℕ) (octets : List ℕ) (last : ℕ) (more : List ℕ) → ends_line b (octets ++ (last ∷ more)) ≡ ends_line b (octets ++ last ∷ [])
 same_end b [] last more = refl
 same_end b (c ∷ octets) last more = refl
 
--- the first line has these octets, and goes on as a line that begins with the last
+-- the first line has these bytes, and goes on as a line that begins with the last
 lines_past : (octets : List ℕ) (last : ℕ) (more line : List ℕ) (lines : List (List ℕ)) → GoesOn octets last →
     lines_of (last ∷ more) ≡ line ∷ lines → lines_of (octets ++ (last ∷ more)) ≡ (octets ++ line) ∷ lines
 lines_past [] last more line lines goes first = first
@@ -121,7 +121,7 @@ lines_past (b ∷ octets) last more line lines goes first =
     (same_end b octets last more ∙ goes.0) ∙
     ap (λ (ls : List (List ℕ)). onto_first b ls) (lines_past octets last more line lines goes.1 first)
 
--- a break that ends no line has a blank behind it
+-- a break that ends no line is followed by a blank
 blank_behind : (front : List ℕ) (last : ℕ) → GoesOn (front ++ 10 ∷ []) last → is_blank last ≡ true
 blank_behind [] last goes =
     elim (is_blank last) as (λ (t : Bool). (true && not t) ≡ false → t ≡ true) [ true ↦ λ h. refl | false ↦ λ h. absurd cc ] goes.0
@@ -133,7 +133,7 @@ no_return : (b : ℕ) (t : List ℕ) → (b == 13) ≡ false → is_return b t �
 no_return b [] h = refl
 no_return b (c ∷ t) h = ap (λ (v : Bool). v && c == 10) h
 
--- whether an octet is the CR of a break is told by the octet behind alone
+-- the next byte alone decides whether a byte is the CR of a break
 same_return : (b : ℕ) (after more : List ℕ) → 0 < length after → is_return b (after ++ more) ≡ is_return b after
 same_return b [] more some = absurd (omega (arith, some))
 same_return b (c ∷ after) more some = refl
@@ -168,12 +168,12 @@ says_itself text = record { ends = refl; empty = refl }
 says_then : (one two three : List ℕ) → SaysTheSame one two → SaysTheSame two three → SaysTheSame one three
 says_then one two three a b = record { ends = a.ends ∙ b.ends; empty = a.empty ∙ b.empty }
 
--- ---- what stands for it
+-- ---- what stands in for it
 
 pub nothing_said : IsSaid []
 nothing_said = inr (codes "END:VCALENDAR", refl)
 
--- no octet of these is of a break
+-- none of these bytes is of a break
 abbrev IsPlain : List ℕ → Type 0
 IsPlain text = AllByRecursion (λ b. ((b == 10) ≡ false) × ((b == 13) ≡ false)) text
 
@@ -199,7 +199,7 @@ said_plain : (text : List ℕ) → IsSaid text → IsPlain text
 said_plain text (inl is) = subst IsPlain (sym is) (plain_all something_else refl)
 said_plain text (inr is) = plain_front text is.0 (subst IsPlain is.1 (plain_all (codes "END:VCALENDAR") refl))
 
--- plain octets say themselves
+-- plain bytes say themselves
 plain_said : (text more : List ℕ) → IsPlain text → said_behind false (text ++ more) ≡ text ++ said_behind false more
 plain_said [] more plain = refl
 plain_said (b ∷ text) more plain =
@@ -213,7 +213,7 @@ plain_goes_on [] after last plain goes = goes
 plain_goes_on (b ∷ text) after last plain goes =
     (ap (λ (t : Bool). t && not (begins_blank ((text ++ after) ++ last ∷ []))) plain.0.0, plain_goes_on text after last plain.1 goes)
 
--- the octets of the line that stands for another
+-- the bytes of the line that stands in for another
 abbrev stand_line : List ℕ → Bool → List ℕ
 stand_line text behind = 10 ∷ (32 ∷ (text ++ break_before behind))
 
@@ -223,7 +223,7 @@ stand_goes_on text true last plain blank =
     (refl, (refl, plain_goes_on text (10 ∷ []) last plain (ap (λ (t : Bool). true && not t) (blank refl), tt)))
 stand_goes_on text false last plain blank = (refl, (refl, plain_goes_on text [] last plain tt))
 
--- behind a fold the line says what stands there
+-- after a fold the line says what follows it
 fold_said : (text : List ℕ) → said_behind false (10 ∷ (32 ∷ text)) ≡ said_behind false text
 fold_said text = ap (λ (t : Bool). cond (t || true) (said_behind false text) (32 ∷ said_behind false text)) (no_return 32 text refl)
 
@@ -237,7 +237,7 @@ stand_says text behind rest plain =
     fold_said ((text ++ break_before behind) ++ rest) ∙ ap (λ (t : List ℕ). said_behind false t) (append_assoc text (break_before behind) rest) ∙
     plain_said text (break_before behind ++ rest) plain ∙ ap (λ (t : List ℕ). text ++ t) (break_said behind rest)
 
--- ---- passing the octets of a line
+-- ---- passing the bytes of a line
 
 pub line_begins : (line : List ℕ) → PassesLine line [] false line
 line_begins line = record {
@@ -260,7 +260,7 @@ module _ (line text : List ℕ) (behind : Bool) (b : ℕ) (after : List ℕ) (so
   whole_then : line ≡ (so_far.before ++ b ∷ []) ++ after
   whole_then = so_far.whole ∙ sym (append_assoc so_far.before (b ∷ []) after)
 
-  -- an octet that is left out
+  -- a byte that is left out
   pub octet_left : is_left_out b behind after ≡ true → PassesLine line text (b == 10) after
   octet_left out = record {
     before = so_far.before ++ b ∷ [];
@@ -287,14 +287,14 @@ module _ (line text : List ℕ) (behind : Bool) (b : ℕ) (after : List ℕ) (so
     break_is = break_then;
   }
 
-  -- an octet, as it is left out or not
+  -- a byte, whether it is left out or not
   octet_passed : (other : List ℕ) (is_out : Bool) → is_out ≡ is_left_out b behind after → IsSaid other → (is_out ≡ true → other ≡ text) →
       (is_out ≡ false → (more : List ℕ) → SaysTheSame (text ++ b ∷ more) (other ++ more)) → PassesLine line other (b == 10) after
   octet_passed other true is_left said_is left same =
       subst (λ (t : List ℕ). PassesLine line t (b == 10) after) (sym (left refl)) (octet_left (sym is_left))
   octet_passed other false is_left said_is left same = octet_said other (sym is_left) said_is (same refl)
 
--- the first octet of what is left is passed
+-- the first byte of what is left is passed
 pub first_passed : (line text : List ℕ) (behind : Bool) (rest other : List ℕ) (is_out : Bool) → PassesLine line text behind rest →
     (length (drop 1 rest) == 0) ≡ false → is_out ≡ is_left_out (get_or rest 0 0) behind (drop 1 rest) → IsSaid other →
     (is_out ≡ true → other ≡ text) → (is_out ≡ false → (more : List ℕ) → SaysTheSame (text ++ get_or rest 0 0 ∷ more) (other ++ more)) →
@@ -306,7 +306,7 @@ first_passed line text behind (b ∷ after) other is_out so_far some is_left sai
 
 -- ---- the stand-in
 
--- the first line of octets of which there is one
+-- the first line of bytes that aren't empty
 first_line_of : (last : ℕ) (more : List ℕ) → (line : List ℕ) × (lines : List (List ℕ)) × (lines_of (last ∷ more) ≡ (last ∷ line) ∷ lines)
 first_line_of last more =
     elim (ends_line last more) as (λ (t : Bool). (line : List ℕ) × (lines : List (List ℕ))
@@ -316,7 +316,7 @@ first_line_of last more =
           × (onto_first last ls ≡ (last ∷ line) ∷ lines)) [ [] ↦ ([], [], refl) | line ∷ lines ↦ (line, lines, refl) ]
     ]
 
--- the few octets as they are cut
+-- the few bytes as they are cut
 few_passes : (all_empty : Bool) (text : List ℕ) (behind : Bool) (last : ℕ) (more : List ℕ) →
     Passes ((((begun_line all_empty ++ text) ++ break_before behind) ++ last ∷ []) ++ more) (stand_line text behind ++ (last ∷ more)) all_empty
 few_passes true text behind last more =
@@ -337,13 +337,13 @@ module _ (octets line text : List ℕ) (all_empty behind : Bool) (last : ℕ) (b
   line_past : (more : List ℕ) → line ++ more ≡ front.before ++ (last ∷ more)
   line_past more = ap (λ (t : List ℕ). t ++ more) front.whole ∙ append_assoc front.before (last ∷ []) more
 
-  -- the line says as much as the one that stands for it, whatever it goes on with
+  -- the line says as much as the one that stands in for it, whatever it goes on with
   alike : (more : List ℕ) → SaysTheSame (said (front.before ++ (last ∷ more))) (said (stand_line text behind ++ (last ∷ more)))
   alike more = subst (λ (t : List ℕ). SaysTheSame (said (front.before ++ (last ∷ more))) t)
       (sym (stand_says text behind (last ∷ more) (said_plain text front.said_is)))
       (subst (λ (t : List ℕ). SaysTheSame (said t) (text ++ said_behind behind (last ∷ more))) (line_past more) (front.says more))
 
-  -- the octets are no more than the lines that were passed, and the one that goes on
+  -- the bytes are only the lines that were passed and the one that goes on
   bound : (more more_line : List ℕ) (passed : List (List ℕ)) → octets ++ more ≡ concat passed ++ (line ++ more) →
       length octets ≤ length (concat (passed ++ (front.before ++ (last ∷ more_line)) ∷ []))
   bound more more_line passed is =
@@ -385,7 +385,7 @@ module _ (octets line text : List ℕ) (all_empty behind : Bool) (last : ℕ) (b
       (stand_line text behind ++ (last ∷ first.0)) came.none_ends few.none_ends (sym came.blank_is ∙ few.blank_is) says.ends says.empty
       (bound more first.0 came.passed came.whole)))
 
--- no octets stand for none
+-- no bytes stand in for none
 differ_itself : (texts : List (List ℕ)) → DifferInFirst 0 texts texts
 differ_itself [] = tt
 differ_itself (text ∷ texts) = let e : 0 ≤ length text = omega arith in (e, refl)
@@ -403,7 +403,7 @@ message_stands message front few begun passes is =
     (stands_for message.octets.now message.line.now front.said.now message.all_empty front.is_behind front.last begun.passes begun.goes_on
     passes)
 
--- ---- how many octets stand for a message
+-- ---- how many bytes stand in for a message
 
 short_said : (text : List ℕ) → IsSaid text → length text ≤ 14
 short_said text (inl is) = let long : length text ≡ 14 = ap length is in omega (arith, long)
@@ -430,13 +430,13 @@ few_are_few all_empty front said_is =
     let first : length (begun ++ text) ≡ length begun + length text = length-append begun text in
     omega (arith, all, before, first, short_begun all_empty, short_said text said_is, short_break front.is_behind)
 
--- ---- where it is not known where a message ends, none is cut off
+-- ---- where the end of a message isn't known, none is cut off
 
 and_false : (x : Bool) → (x && false) ≡ false
 and_false true = refl
 and_false false = refl
 
--- a line that goes on, and a blank behind it: all of it is one line
+-- a line that goes on, and a blank after it: all of it is one line
 one_line : (line more : List ℕ) → line_length line ≡ length line → begins_blank more ≡ true → lines_of more ≡ more ∷ [] →
     lines_of (line ++ more) ≡ (line ++ more) ∷ []
 one_line [] more whole blank one = one
@@ -454,7 +454,7 @@ one_line (b ∷ (c ∷ line)) more whole blank one =
           ap (λ (ls : List (List ℕ)). onto_first b ls) (one_line (c ∷ line) more (omega (arith, h)) blank one)
     ] refl whole
 
--- what stands last, and is X (88), is said last
+-- what comes last, and is X (88), is said last
 x_said : (octets : List ℕ) (behind : Bool) → (text : List ℕ) × (said_behind behind (octets ++ 88 ∷ []) ≡ text ++ 88 ∷ [])
 x_said [] true = ([], refl)
 x_said [] false = ([], refl)
@@ -486,7 +486,7 @@ x_line octets =
       ap (λ (t : List ℕ). same_text (map to_ascii_uppercase t) []) text.1 ∙ other.empty,
     )
 
--- the line goes on behind a fold, and says X last: the message has all octets
+-- the line goes on after a fold, and says X last: the message has all bytes
 module _ (octets line : List ℕ) (all_empty : Bool) (begun : StaysPassing octets line all_empty) (whole : line_length line ≡ length line)
   where
     all_of_it : (front : List ℕ) → begins_blank (front ++ 88 ∷ []) ≡ true → lines_of (front ++ 88 ∷ []) ≡ (front ++ 88 ∷ []) ∷ [] →
@@ -516,7 +516,7 @@ module _ (octets line : List ℕ) (all_empty : Bool) (begun : StaysPassing octet
         sym (all_of_it front blank one) ∙ (stays (front ++ 88 ∷ [])).messages in
         cc
 
-    -- no message is cut off that is the same whatever follows: with an octet more the first has one more
+    -- no message that is cut off is the same whatever follows: with one more byte the first is one byte longer
     pub not_cut : (cut after : List ℕ) → StaysCut octets cut after → ⊥
     not_cut cut after stays =
         let one : length (octets ++ 32 ∷ (88 ∷ [])) ≡ length cut = ap length (first_is (32 ∷ []) cut after refl refl stays) in

@@ -26,10 +26,9 @@ use Rattle.itip_items.specs.declared.error.FormError.{FormError}
 use Rattle.itip_items.specs.declared.error.FormError.TheVariants as form_error
 use Rattle.itip_items.specs.declared.item.Item.{Item}
 use Rattle.itip_items.specs.declared.kind.Method.TheVariants as method
-use Rattle.itip_message.specs.Building.{Adds, IsOneProperty, RefusesText, RefusesMade, RefusesItem, GivesItem, next_number, bad_line, not_one, of_component, no_todo, too_large}
-use Rattle.itip_message.specs.Building.{RefusesValue, RefusesBeginning, broken_value, no_line, RefusesMoment, no_moment}
+use Rattle.itip_message.specs.Building.{Adds, IsOneProperty, RefusesText, RefusesMade, RefusesItem, GivesItem, no_todo, too_large}
+use Rattle.itip_message.specs.Building.{RefusesValue, RefusesBeginning, no_line, RefusesMoment, no_moment}
 use Rattle.itip_message.specs.Building.{AddsMoment, has_lawful_zone, moment_line_text}
-use Rattle.itip_message.specs.Message.{ReadsComponent}
 use Rattle.itip_message.specs.Refusals.{IfRefused, todo_gives, form_gives}
 use Rattle.itip_message.specs.declared.error.ReadError.{ReadError}
 use Rattle.itip_message.specs.declared.error.ReadError.TheVariants as error
@@ -41,7 +40,7 @@ pub on_ok_always : {A E P : Type 0} (r : Result A E) → P → OnOk r P
 on_ok_always (Ok a) p = p
 on_ok_always (Err e) p = tt
 
--- what is no line gives no line behind its front
+-- what isn't a line makes no line after its front
 refused_value : (e : ReadError) (front value : List ℕ) (number : ℕ) → HasNoLf value → IfRefused e (RefusesText (front ++ value) number) →
     IfRefused e (RefusesValue front value number)
 refused_value error.NoMemory front value number whole h = tt
@@ -138,19 +137,19 @@ pub todo_refuses_item : (e : ReadError) (given : List NumberedLine) → IfRefuse
 todo_refuses_item error.NoMemory given h = tt
 todo_refuses_item (error.Refused refusal) given h = no_todo refusal h
 
--- a line more, which is a property
+-- one more line, which is a property
 pub added_sound : (old new : List NumberedLine) (number : ℕ) (line : Line) → AreProperties (plain_lines old) → IsTrue (is_property line) →
     new ≡ old ++ line_at number line ∷ [] → AreProperties (plain_lines new)
 added_sound old new number line sound is whole =
     subst (λ (ls : List NumberedLine). AreProperties (plain_lines ls)) (sym whole) (properties_more old (line_at number line) sound is)
 
--- the one property of a text is so in memory of its own
+-- the one property of a text stays so in memory of its own
 pub owned_property : (text : List ℕ) (only : NumberedLine) (own : Line) → lines.Reads text (only ∷ []) → is_property only.line ≡ true →
     own ≡ only.line → IsOneProperty text own
 owned_property text only own reads property same =
     subst (λ (line : Line). IsOneProperty text line) (sym same) (record { number = only.number; reads = reads; property = property })
 
--- one octet of a text more
+-- one more octet of a text
 pub octet_more : (f : ℕ → List ℕ) (octets : List ℕ) (i : ℕ) (old page new : List ℕ) → i < length octets →
     page ≡ old ++ flat_map f (take i octets) → new ≡ page ++ f (get_or octets i 0) → new ≡ old ++ flat_map f (take (i + 1) octets)
 octet_more f octets i old page new less before puts =

@@ -1,4 +1,4 @@
--- What the scan finds is what the octets are cut into.
+-- What the scan finds is what the bytes are cut into.
 use Rattle.std.proofs.Common.{◌≡◌, ◌≢◌, ◌∙◌, sym, ap, refl, ℕ, zero, suc, ◌<◌, ◌+◌, Bool, true, false, cond, not, List, [], ◌∷◌, ◌++◌}
 use Rattle.std.proofs.Common.{length, arith, subst, inl, inr, append_assoc, append-nil}
 use Rattle.std.specs.Prelude.{◌⊎◌, ◌==◌, ◌&&◌, ◌||◌, map}
@@ -21,7 +21,7 @@ use Rattle.itip_message.proofs.Messages.{concat_push, texts_end, not_empty, grou
 
 -- ---- the first line, as it came
 
--- with its break: the text behind it begins another line
+-- with its break: the text after it begins another line
 abbrev IsClosed : List ℕ → Type 0
 IsClosed raw = (line t : List ℕ) → LacksBlank t → lines_onto line (raw ++ t) ≡ (line ++ said raw) ∷ lines_onto [] t
 
@@ -53,7 +53,7 @@ lacks_blank : (t : List ℕ) → begins_blank t ≡ false → LacksBlank t
 lacks_blank [] h = lacks_nothing
 lacks_blank (b ∷ t) h = λ c more e. subst (λ (x : ℕ). is_blank x ≡ false) (first_is b c t more e) h
 
--- what an octet says that is in no break
+-- what a byte says that is in no break
 octet_said : (b : ℕ) (t : List ℕ) → (b == 10) ≡ false → is_return b t ≡ false → said (b ∷ t) ≡ b ∷ said t
 octet_said b t feed ret =
     ap (λ (v : Bool). cond v (said_behind true t) (cond (is_return b t || false) (said_behind false t) (b ∷ said_behind false t))) feed
@@ -80,7 +80,7 @@ no_return : (b : ℕ) (t : List ℕ) → (b == 13) ≡ false → is_return b t �
 no_return b [] h = refl
 no_return b (c ∷ t) h = ap (λ (v : Bool). v && c == 10) h
 
--- whether an octet is the CR of a break is told by the line alone
+-- the line alone decides whether a byte is the CR of a break
 same_return : (b : ℕ) (bytes raw after : List ℕ) → bytes ≡ raw ++ after → 0 < length raw → (t : List ℕ) →
     is_return b (raw ++ t) ≡ is_return b bytes
 same_return b bytes [] after whole some t = absurd (omega arith)
@@ -89,7 +89,7 @@ same_return b bytes (c ∷ raw) after whole some t = ap (is_return b) (sym whole
 goes_on : (line : List ℕ) (b : ℕ) (raw : List ℕ) → (line ++ b ∷ []) ++ raw ≡ line ++ (b ∷ raw)
 goes_on line b raw = append_assoc line (b ∷ []) raw
 
--- an octet that is in no break, before a line
+-- a byte that is in no break, before a line
 octet_before : (b : ℕ) (bytes : List ℕ) → (b == 10) ≡ false → is_return b bytes ≡ false → HasFirst bytes → HasFirst (b ∷ bytes)
 octet_before b bytes feed ret first =
     let raw_return : (t : List ℕ) → is_return b (first.raw ++ t) ≡ false =
@@ -338,7 +338,7 @@ joined_then (p ∷ ps) last =
     ap (λ x. p.text ++ x) (sym (append_assoc (break_bytes p.end) (joined ps []) last))
     ∙ sym (append_assoc p.text (break_bytes p.end ++ joined ps []) last)
 
--- the last octet, or this where there is none
+-- the last byte, or this one if there is none
 end_of : ℕ → List ℕ → ℕ
 end_of d [] = d
 end_of d (b ∷ bs) = end_of b bs
@@ -353,7 +353,7 @@ unfolding end_of
 no_feed_last x [] h e = All-head (λ b. b ≢ 10) x [] h e
 no_feed_last x (y ∷ ys) h e = no_feed_last y ys (All-tail (λ b. b ≢ 10) x (y ∷ ys) h) e
 
--- a text that ends with a line break has no stretch behind it
+-- a text that ends with a line break has no stretch after it
 nothing_last : (ps : List Piece) (last before : List ℕ) → HasNoLf last → before ++ 10 ∷ [] ≡ joined ps last → last ≡ []
 unfolding end_of
 nothing_last ps [] before h e = refl
@@ -365,7 +365,7 @@ feed_some : (before : List ℕ) → before ++ 10 ∷ [] ≡ [] → ⊥
 feed_some [] e = cc
 feed_some (b ∷ before) e = cc
 
--- a text that ends with the break of a line that ends a calendar, and of which no other does
+-- a text that ends with the break of a line that ends a calendar, and none of whose other lines does
 calendar_of : (text before : List ℕ) (front : List (List ℕ)) (line : List ℕ) → text ≡ before ++ 10 ∷ [] →
     lines_onto [] (text ++ []) ≡ (front ++ line ∷ []) ++ lines_onto [] [] → EndNoCalendar front → is_calendar_end line ≡ true →
     IsCalendar text
@@ -543,6 +543,6 @@ cut_on (suc fuel) bytes h =
       }
     ]
 
--- the octets are cut into the messages that the scan finds
+-- the bytes are cut into the messages that the scan finds
 pub cut_by_scan : (bytes : List ℕ) → IsCutInto bytes (messages_of bytes)
 cut_by_scan bytes = cut_on (length bytes + 1) bytes (omega arith)

@@ -1,11 +1,11 @@
--- The first line of some octets.
+-- The first line of some bytes.
 use Rattle.std.proofs.Common.{◌≡◌, ℕ, suc, ◌<◌, ◌≤◌, true, false, cond, List, [], ◌∷◌, length, take, drop, refl, ap, sym, arith}
 use Rattle.std.proofs.Common.{length-take, take-append-drop}
 use Rattle.std.specs.List.{onto_first}
 use Rattle.itip_message.specs.Scanned.{lines_of, line_length, ends_line}
 use Rattle.itip_message.specs.Passing.{IsFirstLine}
 
--- the first line is that many octets
+-- the first line is that many bytes
 pub lines_first : (b : ℕ) (bytes : List ℕ) → lines_of (b ∷ bytes) ≡ take (line_length (b ∷ bytes)) (b ∷ bytes) ∷
     lines_of (drop (line_length (b ∷ bytes)) (b ∷ bytes))
 lines_first b [] = elim (ends_line b []) as (λ t. cond t ((b ∷ []) ∷ []) ((b ∷ []) ∷ []) ≡ take (cond t 1 1) (b ∷ []) ∷

@@ -1,4 +1,4 @@
--- The lines of octets that were written of lines, and what they say.
+-- The lines of bytes that were written for lines, and what they say.
 use Rattle.std.proofs.Common.{◌≡◌, ◌∙◌, ap, refl, ℕ, ◌+◌, Bool, true, false, cond, not, List, [], ◌∷◌, ◌++◌, map, arith, append_assoc}
 use Rattle.std.specs.Prelude.{◌&&◌, ◌||◌, ◌==◌, codes}
 use Rattle.std.specs.Char.{to_ascii_uppercase}

@@ -43,7 +43,7 @@ last_of (x ∷ []) h = record { outer = []; inner = x; whole = refl }
 last_of (x ∷ (y ∷ names)) h = let r = last_of (y ∷ names) (omega arith) in
     record { outer = x ∷ r.outer; inner = r.inner; whole = ap (λ (all : List (List ℕ)). x ∷ all) r.whole }
 
--- a line where nothing is inside
+-- a line where no component is open
 pub place_outside : (line : NumberedLine) (lines : List NumberedLine) → place [] (line ∷ lines) ≡ nested (Some line.number)
 place_outside line lines = refl
 
@@ -151,7 +151,7 @@ pub property_so : (inside : List (List ℕ)) (line : NumberedLine) (lines : List
 property_so inside line lines front some h k e = place_property inside line lines some h k ∙
     (λ i. with_front (sym e i) (place inside lines))
 
--- one line more is placed
+-- one more line is placed
 pub one_more : (front more : List Placed) (inside now : List (List ℕ)) (line : NumberedLine) (left rest : List NumberedLine)
     (all : Result (List Placed) MessageRefusal)
     → with_front front (place inside left) ≡ all → left ≡ line ∷ rest → place inside (line ∷ rest) ≡ with_front more (place now rest)

@@ -1,4 +1,4 @@
--- Octets are cut into messages in one way.
+-- Bytes are cut into messages in one way.
 use Rattle.std.proofs.Common.{◌≡◌, ◌∙◌, sym, ap, refl, ℕ, ◌<◌, Bool, true, false, List, [], ◌∷◌, ◌++◌, length, arith, subst, inl, inr}
 use Rattle.std.proofs.Common.{append_assoc, append-nil}
 use Rattle.std.specs.Prelude.{◌⊎◌, IsTrue, map}
@@ -59,7 +59,7 @@ lines_and_blank p is =
 lacks_front : (x a : List ℕ) → LacksBlank (x ++ a) → LacksBlank x
 lacks_front x a lacks = λ b more e. lacks b (more ++ a) (ap (λ y. y ++ a) e)
 
--- no calendar goes on behind another
+-- no calendar goes on after another
 not_longer : (p x : List ℕ) → IsCalendar p → IsCalendar (p ++ x) → LacksBlank x → x ≡ []
 not_longer p [] is longer lacks = refl
 not_longer p (b ∷ x) is longer lacks =
@@ -105,7 +105,7 @@ all_same (p ∷ ps) (q ∷ qs) r s each others apart so left rest e =
     let more = all_same ps qs r s each.1 others.1 apart.1 so.1 left rest first.1 in
     ((λ i. first.0 i ∷ more.0 i), more.1)
 
--- octets are cut into one list of messages
+-- bytes are cut into one list of messages
 pub one_cut : (bytes : List ℕ) (messages others : List (List ℕ)) → IsCutInto bytes messages → IsCutInto bytes others → messages ≡ others
 one_cut bytes messages others h k =
     let same = all_same h.calendars k.calendars h.rest k.rest h.each k.each h.apart k.apart h.rest_is k.rest_is (sym h.whole ∙ k.whole) in

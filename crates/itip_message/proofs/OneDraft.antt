@@ -1,4 +1,4 @@
--- A text is one draft, or it is refused for one cause, and not both.
+-- A text is either one draft or refused for one cause.
 use Rattle.std.proofs.Common.{◌≡◌, ◌∙◌, sym, ap, refl, ℕ, true, false, cond, List, length, drop, map, subst, inl, inr, ◌⊎◌, Some, None, Ok, Err}
 use Rattle.std.specs.Prelude.{Result, nat_lt, codes}
 use Rattle.itip_lines.specs.Reading as lines
@@ -25,7 +25,7 @@ use Rattle.itip_message.proofs.OneMessage.{LastRefusal, LastItems, one_last, sam
 use Rattle.itip_message.proofs.RefusalPlaces.{GivesPlace, cond_placed, err_placed, frame_placed, counted_placed, first_placed}
 use Rattle.itip_message.proofs.SomeMessage.{decide_components, some_items}
 
--- ---- the stages behind the lines, from the last to the first: why they give no to-dos, and which to-dos they give
+-- ---- the stages after the lines, from the last to the first: why they give no to-dos, and which to-dos they give
 
 record DatedRefusal (components : List Component) (f : MessageRefusal) : Type 0 where
   with_stamps : List Component
@@ -154,7 +154,7 @@ reads_apart bytes all f h (inr k) =
 pub draft_apart : (bytes : List ℕ) (all : List Todo) (f : MessageRefusal) → ReadsDraft bytes all → RefusesDraft bytes f → ⊥
 draft_apart bytes all f h k = reads_apart bytes all f h (cause bytes f k)
 
--- ---- octets are read as a draft, or they are refused
+-- ---- bytes are read as a draft, or they are refused
 
 abbrev ReadOrRefused : List ℕ → Type 0
 ReadOrRefused bytes = ((all : List Todo) × ReadsDraft bytes all) ⊎ ((f : MessageRefusal) × RefusesDraft bytes f)

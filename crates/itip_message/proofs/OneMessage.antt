@@ -1,4 +1,4 @@
--- A text is one message, or it is refused for one cause, and not both.
+-- A text is either one message or refused for one cause.
 use Rattle.std.proofs.Common.{◌≡◌, ◌∙◌, sym, ap, refl, ℕ, ◌+◌, ◌<◌, List, [], ◌∷◌, ◌++◌, map, length, get_or, suc, zero, arith, subst, inl}
 use Rattle.std.proofs.Common.{inr, ◌⊎◌, Some, None, Ok, Err}
 use Rattle.std.specs.Prelude.{Result}
@@ -135,7 +135,7 @@ err_same r f g h k = let e : Err f ≡ Err g = sym h ∙ k in cc
 pub ok_apart : {A : Type 0} (r : Result A MessageRefusal) (a : A) (f : MessageRefusal) → r ≡ Ok a → r ≡ Err f → ⊥
 ok_apart r a f h k = let e : Ok a ≡ Err f = sym h ∙ k in cc
 
--- the stages behind the lines, from the last to the first: why they give no items, and which items they give
+-- the stages after the lines, from the last to the first: why they give no items, and which items they give
 
 abbrev pub LastRefusal : Method → List Component → MessageRefusal → Type 0
 LastRefusal m components f =

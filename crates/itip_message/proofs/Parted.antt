@@ -1,4 +1,4 @@
--- Octets in two parts that are cut into messages apart.
+-- Bytes in two parts that are cut into messages separately.
 use Rattle.std.proofs.Common.{◌≡◌, ◌∙◌, sym, ap, refl, ℕ, suc, ◌<◌, ◌+◌, ◌-◌, Bool, true, false, cond, not, ◌&&◌, List, [], ◌∷◌, ◌++◌}
 use Rattle.std.proofs.Common.{length, take, drop, arith, subst, append_assoc, append-nil}
 use Rattle.std.specs.Prelude.{◌==◌}
@@ -6,11 +6,11 @@ use Rattle.std.specs.List.{onto_first, concat, list_all}
 use Rattle.std.proofs.lemmas.Bool.{and_parts, eqb-true}
 use Rattle.std.proofs.lemmas.List.{append_cancel_right, length-append, take_at}
 use Rattle.itip_message.specs.Scanned.{begins_blank, ends_line, line_length, lines_of, is_empty, ends_calendar, groups_of, texts_of, messages_of}
-use Rattle.itip_message.specs.Passing.{IsFirstLine, StaysFirstLine}
+use Rattle.itip_message.specs.Passing.{StaysFirstLine}
 use Rattle.itip_message.specs.Parting.{StaysParted, ClosesLine, IsAtLine}
 use Rattle.itip_message.proofs.FirstLines.{lines_first}
 
--- ---- where a line is at its end
+-- ---- where a line is complete
 
 not_true : (b : Bool) → not b ≡ true → b ≡ false
 not_true true e = absurd cc
@@ -35,7 +35,7 @@ ends_at (b ∷ bytes) within =
           }
     ] refl within
 
--- a line behind which an octet stands
+-- a line that a byte follows
 pub line_at_end : (bytes : List ℕ) (n : ℕ) → n ≡ line_length bytes → n < length bytes → ClosesLine (take n bytes) (drop n bytes)
 line_at_end bytes n is within =
     subst (λ (k : ℕ). ClosesLine (take k bytes) (drop k bytes)) (sym is) (ends_at bytes (omega (arith, is, within)))
@@ -61,7 +61,7 @@ some_lines : (before : List ℕ) → 0 < length (lines_of (before ++ 10 ∷ []))
 some_lines [] = omega arith
 some_lines (b ∷ before) = subst (λ (lines : List (List ℕ)). 0 < length lines) (sym (lines_first b (before ++ 10 ∷ []))) (omega arith)
 
--- one octet more, before the lines of two parts
+-- one more byte, before the lines of two parts
 line_before : (b : ℕ) (text rest : List ℕ) → begins_blank (text ++ rest) ≡ begins_blank text → 0 < length (lines_of text) →
     lines_of (text ++ rest) ≡ lines_of text ++ lines_of rest → lines_of (b ∷ (text ++ rest)) ≡ lines_of (b ∷ text) ++ lines_of rest
 line_before b text rest blank some apart =
@@ -79,7 +79,7 @@ lines_apart [] rest plain = ap (λ (t : Bool). cond (not t) ((10 ∷ []) ∷ lin
 lines_apart (b ∷ before) rest plain =
     line_before b (before ++ 10 ∷ []) rest (blank_front before rest) (some_lines before) (lines_apart before rest plain)
 
--- behind a line that is at its end others begin
+-- after a line that is complete others begin
 behind_line : (x line rest before : List ℕ) → line ≡ before ++ 10 ∷ [] → begins_blank rest ≡ false →
     lines_of ((x ++ line) ++ rest) ≡ lines_of (x ++ line) ++ lines_of rest
 behind_line x line rest before feed plain =
@@ -97,7 +97,7 @@ line_alone bytes line after first ends =
     (sym (behind_line [] line after ends.before ends.feed ends.plain) ∙ ap lines_of (sym (first_whole bytes line after first)) ∙
     ap lines_of (sym (append-nil bytes)) ∙ (first []).lines ∙ ap (λ (t : List ℕ). line ∷ lines_of t) (append-nil after))
 
--- the first line begins with a blank only where the octets do
+-- the first line begins with a blank only if the bytes do
 line_plain : (bytes line after : List ℕ) → StaysFirstLine bytes line after → ClosesLine line after → begins_blank bytes ≡ false →
     begins_blank line ≡ false
 line_plain bytes line after first ends plain =
@@ -119,7 +119,7 @@ some_groups (l ∷ before) line =
     elim (ends_calendar l) as (λ (t : Bool). 0 < length (cond t ((l ∷ []) ∷ groups_of (before ++ line ∷ [])) (onto_first l
     (groups_of (before ++ line ∷ []))))) [ true ↦ omega arith | false ↦ onto_some l (groups_of (before ++ line ∷ [])) ]
 
--- behind a line that ends a calendar another group begins
+-- after a line that ends a calendar another group begins
 groups_apart : (before : List (List ℕ)) (line : List ℕ) (rest : List (List ℕ)) → ends_calendar line ≡ true →
     groups_of ((before ++ line ∷ []) ++ rest) ≡ groups_of (before ++ line ∷ []) ++ groups_of rest
 groups_apart [] line rest ends =
@@ -152,7 +152,7 @@ messages_apart text rest before line apart lines ends =
 
 -- ---- parts
 
--- behind a line that is at its end another begins
+-- after a line that is complete another begins
 pub at_line : (bytes x behind line after : List ℕ) → bytes ≡ x ++ behind → StaysFirstLine behind line after → ClosesLine line after →
     IsAtLine bytes after
 at_line bytes x behind line after whole first ends = record {

@@ -1,4 +1,4 @@
--- No octet of a lawful line stands in a break, and its name is not END.
+-- No octet of a lawful line is in a break, and its name is not END.
 use Rattle.std.proofs.Common.{◌≡◌, ◌∙◌, ap, refl, ℕ, Bool, true, false, cond, not, List, [], ◌∷◌, ◌++◌, map, arith}
 use Rattle.std.specs.Prelude.{IsTrue, ◌&&◌, ◌||◌, ◌==◌, codes, Option, Some, None}
 use Rattle.std.specs.Char.{to_ascii_uppercase}
@@ -63,7 +63,7 @@ clean_params : (ps : List Param) → AllByRecursion IsLawfulParam ps → list_al
 clean_params [] h = refl
 clean_params (p ∷ ps) h = both (param_text p) (params_text ps) (clean_param p h.0) (clean_params ps h.1)
 
--- each octet of a lawful line may stand in a value
+-- each octet of a lawful line may be in a value
 pub clean_content : (c : Content) → IsLawfulContent c → list_all is_value_octet (line_text c.name c.params c.value) ≡ true
 clean_content c h =
     both c.name (params_text c.params ++ 58 ∷ c.value) (clean_name c.name h.named)
@@ -137,7 +137,7 @@ upper_no_colon b h = rw (upper_same b h) (no_colon b h)
     no_colon : (b : ℕ) → is_upper_name_octet b ≡ true → (b == 58) ≡ false
     no_colon b h = grind (arith, nat_tests)
 
--- what stands behind a name: ";" or ":"
+-- what follows a name: ";" or ":"
 tail_of : (params : List Param) (value : List ℕ) → List ℕ
 tail_of params value = params_text params ++ 58 ∷ value
 

@@ -1,4 +1,4 @@
--- The canonical octets of an item are a message that gives this item.
+-- The canonical bytes of an item are a message that gives this item.
 use Rattle.std.proofs.Common.{◌≡◌, ◌≤◌, ℕ, sym, refl, true, List, [], ◌∷◌, length, subst, arith, inl, inr, Option, Some, None}
 use Rattle.std.specs.Prelude.{IsTrue}
 use mathlib.Core.Bool.{Bool-set}

@@ -35,7 +35,7 @@ pub cond_placed : (A : Type 0) (b : Bool) (r s : Result A MessageRefusal) → (b
 cond_placed A true r s h k = h refl
 cond_placed A false r s h k = k refl
 
--- components in components
+-- nested components
 
 nested_placed : (line : Option ℕ) → GivesPlace (List Placed) (nested line)
 nested_placed line = err_placed (List Placed) (at_line causes.Nesting line) (refl, tt)

@@ -1,4 +1,4 @@
--- What a line says with an octet more.
+-- What a line says with one more byte.
 use Rattle.std.proofs.Common.{◌≡◌, ◌∙◌, sym, ap, refl, subst, ℕ, suc, ◌+◌, ◌<◌, false, List, [], ◌∷◌, ◌++◌, length, map, take}
 use Rattle.std.proofs.Common.{get_or, inl, inr, arith, append_assoc, append-nil}
 use Rattle.std.specs.Prelude.{codes}
@@ -25,7 +25,7 @@ some_text : (text : List ℕ) (b : ℕ) (more : List ℕ) → same_text (upper (
 some_text [] b more = refl
 some_text (c ∷ text) b more = refl
 
--- an octet that is not the next of END:VCALENDAR
+-- a byte that isn't the next of END:VCALENDAR
 pub says_else : (text : List ℕ) (b : ℕ) → (length text < 13 → get_or (codes "END:VCALENDAR") (length text) 0 ≡ to_ascii_uppercase b → ⊥)
     → (more : List ℕ) → SaysTheSame (text ++ b ∷ more) (something_else ++ more)
 says_else text b other more = record {
@@ -42,7 +42,7 @@ says_else text b other more = record {
   empty = some_text text b more;
 }
 
--- the next octet of END:VCALENDAR, in whatever case
+-- the next byte of END:VCALENDAR, in any case
 module _ (text : List ℕ) (b : ℕ) (other : List ℕ) (short : length text < 13)
     (at : get_or (codes "END:VCALENDAR") (length text) 0 ≡ to_ascii_uppercase b)
     (taken : other ≡ take (length text + 1) (codes "END:VCALENDAR")) where

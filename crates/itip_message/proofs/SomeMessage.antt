@@ -239,7 +239,7 @@ module _ (bytes : List ℕ) (content : List NumberedLine) (reads : lines.Reads b
   with_frame (Err f) e = inr (f, at_frame content f reads e)
   with_frame (Ok placed) e = with_head placed e (head placed) refl
 
--- octets are read as items, or they are refused
+-- bytes are read as items, or they are refused
 pub some_message : (bytes : List ℕ) → ((items : List Item) × ReadsMessage bytes items) ⊎ ((f : MessageRefusal) × RefusesMessage bytes f)
 some_message bytes =
     elim (reads_or_refused bytes) [

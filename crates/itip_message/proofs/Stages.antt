@@ -1,6 +1,5 @@
 -- The stages of reading a message, and what each says of the message.
-use Rattle.std.proofs.Common.{◌≡◌, ◌∙◌, sym, ap, ℕ, List, length, map, subst, Ok, Err}
-use Rattle.std.specs.Prelude.{Result, IfOk, IfErr}
+use Rattle.std.proofs.Common.{◌≡◌, ◌∙◌, sym, ℕ, List, map, Ok, Err}
 use Rattle.itip_lines.specs.Reading as lines
 use Rattle.itip_lines.specs.declared.error.LineError as line_error
 use Rattle.itip_lines.specs.declared.line.NumberedLine.{NumberedLine}

@@ -1,4 +1,4 @@
--- Lines that are passed whatever octets come behind them.
+-- Lines that are passed whatever bytes come after them.
 use Rattle.std.proofs.Common.{◌≡◌, ◌∙◌, sym, ap, refl, ℕ, zero, suc, ◌<◌, ◌≤◌, ◌-◌, ◌+◌, Bool, true, false, cond, ◌&&◌, List, [], ◌∷◌, ◌++◌}
 use Rattle.std.proofs.Common.{length, take, drop, arith, subst}
 use Rattle.std.proofs.lemmas.List.{length-append}
@@ -30,7 +30,7 @@ drop_front zero xs ys within = refl
 drop_front (suc n) [] ys within = absurd (omega (arith, within))
 drop_front (suc n) (x ∷ xs) ys within = drop_front n xs ys (omega (arith, within))
 
--- a line behind which an octet stands is the first line, whatever comes behind
+-- a line that a byte follows is the first line, whatever comes after it
 pub line_stays : (bytes : List ℕ) (n : ℕ) → n ≡ line_length bytes → n < length bytes → StaysFirstLine bytes (take n bytes) (drop n bytes)
 line_stays bytes n is within = λ more.
     let inside : line_length bytes < length bytes = omega (arith, is, within) in
@@ -65,6 +65,6 @@ stays_end bytes rest line after message blank so_far first ends within is = λ m
     ap (λ (k : ℕ). take k (bytes ++ more)) count ∙ take_front (length bytes - length after) bytes more (omega (arith, within)) ∙ sym is in
     subst (λ (t : List ℕ). CutsMessage (bytes ++ more) t (after ++ more)) text cut
 
--- what has octets is not empty
+-- what has bytes is not empty
 pub none_left : (bytes after : List ℕ) → 0 < length after → after ≡ [] → bytes ≡ []
 none_left bytes after some none = absurd (let e : length after ≡ 0 = ap length none in omega (arith, e, some))

@@ -1,4 +1,4 @@
--- The unfolded lines of a text, octet by octet and piece by piece.
+-- The unfolded lines of a text, byte by byte and piece by piece.
 use Rattle.std.proofs.Common.{◌≡◌, ◌≢◌, ◌∙◌, sym, ap, refl, ℕ, ◌<◌, true, false, cond, List, [], ◌∷◌, ◌++◌, map, length, arith, subst, inl}
 use Rattle.std.proofs.Common.{inr, append_assoc, append-nil}
 use Rattle.std.specs.Prelude.{◌==◌}
@@ -25,7 +25,7 @@ nil_cr : (f : List ℕ) → [] ≡ f ++ 13 ∷ [] → ⊥
 nil_cr [] e = cc
 nil_cr (x ∷ f) e = cc
 
--- ---- the first octets
+-- ---- the first bytes
 
 feed_first : (t : List ℕ) → stretches_of (10 ∷ t) ≡ [] ∷ stretches_of t
 feed_first t = stretches_of_break (10 ∷ t) [] [] t no_lf_nil refl (inr (refl, nil_cr))
@@ -37,7 +37,7 @@ return_first t = stretches_of_break (13 ∷ (10 ∷ t)) (13 ∷ []) [] t no_lf_c
 pub feed_ends : (line t : List ℕ) → LacksBlank t → lines_onto line (10 ∷ t) ≡ line ∷ lines_onto [] t
 feed_ends line t lacks = lines_onto_break line (10 ∷ t) [] t (feed_first t) lacks ∙ ap (λ l. l ∷ lines_onto [] t) (append-nil line)
 
--- but where a blank stands behind it
+-- unless a blank follows it
 pub feed_folds : (line : List ℕ) (b : ℕ) (t : List ℕ) → is_blank b ≡ true → lines_onto line (10 ∷ (b ∷ t)) ≡ lines_onto line t
 feed_folds line b t blank = lines_onto_fold line (10 ∷ (b ∷ t)) [] (b ∷ t) t (feed_first (b ∷ t)) (b, refl, blank) ∙
     ap (λ l. lines_onto l t) (append-nil line)
@@ -77,7 +77,7 @@ onto_octet : (line : List ℕ) (b : ℕ) (cs : List (List ℕ)) → 0 < length c
 onto_octet line b [] h = absurd (omega arith)
 onto_octet line b (c ∷ cs) h = ap (λ l. unfolded_onto l cs) (sym (append_assoc line (b ∷ []) c))
 
--- any other octet goes on the line
+-- any other byte continues the line
 pub octet_goes_on : (line : List ℕ) (b : ℕ) (t : List ℕ) → (b == 10) ≡ false → is_return b t ≡ false →
     lines_onto line (b ∷ t) ≡ lines_onto (line ++ b ∷ []) t
 unfolding lines_onto
@@ -126,7 +126,7 @@ piece_first text crlf t is =
 texts : List Piece → List (List ℕ)
 texts ps = map (λ p. p.text) ps
 
--- the stretches of physical lines and of a text behind them
+-- the stretches of physical lines and of a text after them
 pieces_first : (ps : List Piece) (t : List ℕ) → AllByRecursion IsPiece ps → stretches_of (joined ps [] ++ t) ≡ texts ps ++ stretches_of t
 unfolding texts
 pieces_first [] t each = refl
@@ -154,7 +154,7 @@ onto_behind t lacks line ((b ∷ c) ∷ cs) =
       | false ↦ ap (λ ls. line ∷ ls) (onto_behind t lacks (b ∷ c) cs)
     ]
 
--- the unfolded lines of physical lines, and then those of the text behind them
+-- the unfolded lines of physical lines, and then those of the text after them
 pub lines_then : (ps : List Piece) (t : List ℕ) → AllByRecursion IsPiece ps → 0 < length ps → LacksBlank t →
     lines_onto [] (joined ps [] ++ t) ≡ unfolded (map (λ p. p.text) ps) ++ lines_onto [] t
 unfolding lines_onto texts
@@ -171,7 +171,7 @@ onto_blank line ((b ∷ c) ∷ cs) =
       | false ↦ ap (λ ls. line ∷ ls) (onto_blank (b ∷ c) cs)
     ]
 
--- a blank behind physical lines is folded away, so there is no line more
+-- a blank after physical lines is folded away, so there is no further line
 pub lines_blank : (ps : List Piece) → AllByRecursion IsPiece ps → 0 < length ps →
     lines_onto [] (joined ps [] ++ 32 ∷ []) ≡ unfolded (map (λ p. p.text) ps)
 unfolding lines_onto texts

@@ -17,7 +17,7 @@ use Rattle.itip_message.specs.declared.error.MessageRefusal.{MessageRefusal}
 abbrev pub is_named : PropertyName → NumberedLine → Bool
 is_named p line = is_same (property_named line.line.name) p
 
--- a line with the name of a property that makes a to-do one of an instance, or lets it recur
+-- a line with the name of a property that makes a to-do one of an instance or lets it recur
 abbrev pub is_recurring : NumberedLine → Bool
 is_recurring line = is_named name.RecurrenceId line || (is_named name.RRule line || is_named name.RDate line)
 
@@ -29,7 +29,7 @@ abbrev pub second_line : List NumberedLine → Option ℕ
 second_line [] = None
 second_line (line ∷ lines) = first_line lines
 
--- the line of these lines of a to-do in which it is not what its method needs; none where something is missing
+-- the line of a to-do that isn't what its method needs; none if something is missing
 abbrev pub line_of_cause : MethodCause → List NumberedLine → Option ℕ
 line_of_cause (cause.Missing p) lines = None
 line_of_cause (cause.Twice p) lines = second_line (filter (is_named p) lines)
@@ -49,15 +49,15 @@ is_of_todo (causes.Todo c) = true
 is_of_todo (causes.Misfit c) = true
 is_of_todo causes.LargeForm = true
 
--- what is missing is at fault in no line
+-- what is missing has no line
 abbrev pub MisfitsIn : MethodCause → Option ℕ → Type 0
 MisfitsIn (cause.Missing p) line = line ≡ None
 MisfitsIn (cause.Twice p) line = Unit {0}
 MisfitsIn cause.Range line = Unit {0}
 MisfitsIn cause.AddForm line = Unit {0}
 
--- The line that may stand beside a cause. Of nesting, of the beginning and of the head there may be one or none:
--- the line that is wrong, or none where an END, all lines, VERSION or METHOD are missing.
+-- The line that may go with a cause. For nesting, the beginning and the head there may be one or none: the wrong line, or none if an END,
+-- all lines, VERSION or METHOD is missing.
 abbrev pub FaultIn : MessageCause → Option ℕ → Type 0
 FaultIn (causes.Lines c) line = (line ≡ None) ↔ (c ≡ line_cause.TooLong)
 FaultIn causes.Nesting line = Unit {0}
@@ -70,6 +70,6 @@ FaultIn (causes.Todo c) line = (line ≡ None) ↔ ((p : PropertyName) × (c ≡
 FaultIn (causes.Misfit c) line = MisfitsIn c line
 FaultIn causes.LargeForm line = line ≡ None
 
--- the refusal names a to-do exactly where its cause is one of a to-do, and the line that may stand beside the cause
+-- the refusal names a to-do exactly if its cause is one of a to-do, and a line that may go with the cause
 abbrev pub NamesPlace : MessageRefusal → Type 0
 NamesPlace refusal = (is_some refusal.todo ≡ is_of_todo refusal.cause) × FaultIn refusal.cause refusal.line

@@ -1,5 +1,5 @@
--- Components in components: BEGIN and END, and which lines stand where (RFC 5545 3.4 and 3.6; the depth is our own limit).
-use Rattle.std.specs.Prelude.{ℕ, nat_lt, Bool, cond, ◌&&◌, List, [], ◌∷◌, ◌++◌, length, codes, Option, Some, None, Result, Ok, Err}
+-- Nested components: BEGIN and END, and where each line belongs (RFC 5545 3.4 and 3.6; the depth is our own limit).
+use Rattle.std.specs.Prelude.{ℕ, nat_lt, cond, ◌&&◌, List, [], ◌∷◌, ◌++◌, length, codes, Option, Some, None, Result, Ok, Err}
 use Rattle.std.specs.Str.{str_to_ascii_uppercase}
 use Rattle.itip_lines.specs.declared.line.Line.{Line}
 use Rattle.itip_lines.specs.declared.line.NumberedLine.{NumberedLine}
@@ -12,28 +12,28 @@ use Rattle.itip_message.specs.declared.error.MessageCause.TheVariants.{Nesting, 
 use Rattle.itip_message.specs.declared.error.MessageRefusal.{MessageRefusal}
 use Rattle.itip_message.specs.Refusals.{at_line}
 
--- the deepest nesting of components, the VCALENDAR being the first
+-- the deepest nesting of components, counting the VCALENDAR
 abbrev pub depth_limit : ℕ
 depth_limit = 32
 
--- the name of the component that a BEGIN or END names, without regard to case
+-- the name of the component that a BEGIN or END names, regardless of case
 abbrev pub component_name : Line → List ℕ
 component_name line = str_to_ascii_uppercase line.value
 
--- what a component adds that begins inside these, the innermost first, in the line of this number
+-- what the BEGIN of a component adds, on the line with this number, inside these open components, the innermost first
 abbrev pub opening : List (List ℕ) → List ℕ → ℕ → List Placed
 opening (calendar ∷ []) name number = cond (same_text name (codes "VTODO")) (TodoBegins number ∷ []) []
 opening [] name number = []
 opening (inner ∷ outer ∷ others) name number = []
 
--- what a property inside these components adds: those of other components are left out with all that they hold
+-- what a property inside these open components adds: other components are left out with everything in them
 abbrev pub property : List (List ℕ) → NumberedLine → List Placed
 property (calendar ∷ []) line = CalendarLine line ∷ []
 property (inner ∷ calendar ∷ []) line = cond (same_text inner (codes "VTODO")) (TodoLine line ∷ []) []
 property [] line = []
 property (inner ∷ outer ∷ other ∷ others) line = []
 
--- components that are open, the innermost first, where it stood last
+-- open components with the innermost first, where it was last
 abbrev pub innermost_first : List (List ℕ) → List (List ℕ)
 innermost_first [] = []
 innermost_first (name ∷ names) = innermost_first names ++ name ∷ []
@@ -42,11 +42,11 @@ abbrev pub with_front : List Placed → Result (List Placed) MessageRefusal → 
 with_front front (Ok placed) = Ok (front ++ placed)
 with_front front (Err refusal) = Err refusal
 
--- badly nested at this line; at none where an END is missing
+-- badly nested at this line, or at none if an END is missing
 abbrev pub nested : Option ℕ → Result (List Placed) MessageRefusal
 nested line = Err (at_line Nesting line)
 
--- The lines inside these open components, the innermost first. No line stands after the end of the outermost.
+-- The lines inside these open components, the innermost first. No line may follow the end of the outermost.
 abbrev pub place : List (List ℕ) → List NumberedLine → Result (List Placed) MessageRefusal
 place [] [] = Ok []
 place (name ∷ open_names) [] = nested None
@@ -61,7 +61,7 @@ place (name ∷ open_names) (line ∷ lines) =
     (cond (same_text (component_name line.line) name) (place open_names lines) (nested (Some line.number)))
     (with_front (property (name ∷ open_names) line) (place (name ∷ open_names) lines)))
 
--- the lines of a message as they are placed, which begin with BEGIN:VCALENDAR
+-- the placed lines of a message, which has to begin with BEGIN:VCALENDAR
 abbrev pub frame : List NumberedLine → Result (List Placed) MessageRefusal
 frame [] = Err (at_line NoCalendar None)
 frame (line ∷ lines) =
@@ -75,14 +75,14 @@ calendar_lines (CalendarLine line ∷ placed) = line ∷ calendar_lines placed
 calendar_lines (TodoBegins number ∷ placed) = calendar_lines placed
 calendar_lines (TodoLine line ∷ placed) = calendar_lines placed
 
--- a VTODO that begins in the line of this number, before its properties
+-- a VTODO that begins on the line with this number, before its properties
 abbrev pub begun : ℕ → Component
 begun number = record { begins = number; lines = [] }
 
 abbrev pub with_line : Component → NumberedLine → Component
 with_line component line = record { begins = component.begins; lines = component.lines ++ line ∷ [] }
 
--- the VTODO that is open with its properties, and each VTODO that begins after it
+-- the open VTODO with its properties, and each VTODO that begins after it
 abbrev pub todos_from : Component → List Placed → List Component
 todos_from first [] = first ∷ []
 todos_from first (TodoLine line ∷ placed) = todos_from (with_line first line) placed
@@ -96,7 +96,7 @@ todos (TodoBegins number ∷ placed) = todos_from (begun number) placed
 todos (CalendarLine line ∷ placed) = todos placed
 todos (TodoLine line ∷ placed) = todos placed
 
--- the same, where the VTODO that is open may be none
+-- the same, where there may be no open VTODO
 abbrev pub todos_within : Option Component → List Placed → List Component
 todos_within None placed = todos placed
 todos_within (Some first) placed = todos_from first placed

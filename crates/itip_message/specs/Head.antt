@@ -17,17 +17,17 @@ use Rattle.itip_message.specs.declared.error.MessageCause.TheVariants as cause
 abbrev pub todo_limit : ℕ
 todo_limit = 1000
 
--- the lines of a name
+-- the lines with this name
 abbrev pub named : List ℕ → List NumberedLine → List NumberedLine
 named name lines = filter (λ (line : NumberedLine). same_text line.line.name name) lines
 
--- the value of the one line of a list
+-- the value of the only line of a list
 abbrev pub only_value : List NumberedLine → Option (List ℕ)
 only_value (line ∷ []) = Some line.line.value
 only_value [] = None
 only_value (line ∷ other ∷ others) = None
 
--- the line that is wrong with a property which has to appear once: the second of its lines, or the only one
+-- the wrong line of a property that has to appear once: the second of its lines, or the only one
 abbrev pub odd_line : List NumberedLine → Option ℕ
 odd_line [] = None
 odd_line (line ∷ []) = Some line.number
@@ -41,26 +41,26 @@ abbrev pub method_in : Option (List ℕ) → Option Method
 method_in None = None
 method_in (Some value) = method_named (str_to_ascii_uppercase value)
 
--- the line in which the first of these begins
+-- the line on which the first of these begins
 abbrev pub first_begins : List Component → Option ℕ
 first_begins [] = None
 first_begins (component ∷ components) = Some component.begins
 
--- the method, where there are to-dos and not too many; without a method the line of METHOD that is wrong
+-- the method, if there are to-dos and not too many; without a method, a refusal at this line of METHOD
 abbrev pub counted : List Component → Option ℕ → Option Method → Result Method MessageRefusal
 counted components line None = Err (at_line cause.Method line)
 counted components line (Some m) =
     cond (nat_lt todo_limit (length components)) (Err (at_line cause.ManyTodos (first_begins (drop todo_limit components))))
     (cond (nat_lt 0 (length components)) (Ok m) (Err (at_line cause.NoTodo None)))
 
--- the method of a message with these properties directly in the VCALENDAR and these to-dos: VERSION is looked at first,
--- then METHOD, then the number of to-dos
+-- the method of a message with these properties directly in the VCALENDAR and these to-dos: VERSION is checked first, then METHOD, then
+-- the number of to-dos
 abbrev pub head_of : List NumberedLine → List Component → Result Method MessageRefusal
 head_of calendar components =
     cond (is_version (only_value (named (codes "VERSION") calendar)))
     (counted components (odd_line (named (codes "METHOD") calendar)) (method_in (only_value (named (codes "METHOD") calendar))))
     (Err (at_line cause.Version (odd_line (named (codes "VERSION") calendar))))
 
--- the method of a message whose lines are placed so
+-- the method of a message with these placed lines
 abbrev pub head : List Placed → Result Method MessageRefusal
 head placed = head_of (calendar_lines placed) (todos placed)

@@ -34,7 +34,7 @@ pub record ReadsComponentWithin (limits : Limits) (m : Method) (component : Comp
 abbrev pub ReadsComponent : Method → Component → Todo → Type 0
 ReadsComponent = ReadsComponentWithin present
 
--- the component of this number is no to-do, or one that is not what the method needs
+-- the component with this number isn't a to-do, or is one that isn't what the method needs
 abbrev pub RefusesComponent : Method → ℕ → Component → MessageRefusal → Type 0
 RefusesComponent m number component refusal =
     ((of : TodoRefusal) × RefusesTodo component.lines of × (refusal ≡ of_todo number of))
@@ -59,7 +59,7 @@ FirstRefused m number (component ∷ components) refusal =
     RefusesComponent m number component refusal ⊎
     (((todo : Todo) × ReadsComponent m component todo) × FirstRefused m (number + 1) components refusal)
 
--- the octets are lines, framed and with a head
+-- the bytes are lines, framed and with a head
 pub record HasHead (bytes : List ℕ) (m : Method) (components : List Component) : Type 0 where
   pub content : List NumberedLine
   pub placed : List Placed
@@ -68,7 +68,7 @@ pub record HasHead (bytes : List ℕ) (m : Method) (components : List Component)
   pub headed : head placed ≡ Ok m
   pub components_are : components ≡ todos placed
 
--- the octets are a message that gives these items, by to-do and then by ATTENDEE line, within these limits of to-dos
+-- the bytes are a message that gives these items, by to-do and then by ATTENDEE line, within these limits of to-dos
 pub record ReadsMessageWithin (limits : Limits) (bytes : List ℕ) (items : List Item) : Type 0 where
   pub method_is : Method
   pub components : List Component
@@ -81,7 +81,7 @@ pub record ReadsMessageWithin (limits : Limits) (bytes : List ℕ) (items : List
 abbrev pub ReadsMessage : List ℕ → List Item → Type 0
 ReadsMessage = ReadsMessageWithin present
 
--- all components are read, and the to-do of this number is the first with a canonical form that is too large
+-- all components are read, and the to-do with this number is the first with a canonical form that is too large
 pub record IsTooLarge (bytes : List ℕ) (todo : ℕ) : Type 0 where
   pub method_is : Method
   pub components : List Component
@@ -90,7 +90,7 @@ pub record IsTooLarge (bytes : List ℕ) (todo : ℕ) : Type 0 where
   pub read : AreComponents method_is components all
   pub over : FirstOver 1 (drafts_each method_is (map parts_of all) (map parts_of all)) todo
 
--- the octets are no message, for this cause: the first, in the order of the stages
+-- the bytes aren't a message, for this cause: the first in the order of the stages
 pub data RefusesMessage (bytes : List ℕ) : MessageRefusal → Type 0 where
   at_lines : (of : LineRefusal) → lines.Refused bytes of → RefusesMessage bytes (of_lines of)
   at_frame : (content : List NumberedLine) (refusal : MessageRefusal)

@@ -12,11 +12,11 @@ use Rattle.itip_message.specs.declared.error.MessageRefusal.{MessageRefusal}
 use Rattle.itip_message.specs.declared.error.ReadError.{ReadError}
 use Rattle.itip_message.specs.declared.error.ReadError.TheVariants as error
 
--- in a line, or in none, of no to-do
+-- for this cause, at a line or at none, and of no to-do
 abbrev pub at_line : MessageCause → Option ℕ → MessageRefusal
 at_line c line = record { cause = c; todo = None; line = line }
 
--- in the to-do of this number, and in a line of it or in none
+-- for this cause, in the to-do with this number, at a line of it or at none
 abbrev pub in_todo : ℕ → MessageCause → Option ℕ → MessageRefusal
 in_todo number c line = record { cause = c; todo = Some number; line = line }
 
@@ -24,11 +24,11 @@ in_todo number c line = record { cause = c; todo = Some number; line = line }
 abbrev pub of_lines : LineRefusal → MessageRefusal
 of_lines refusal = at_line (cause.Lines refusal.cause) refusal.line
 
--- a refusal of the to-do of this number, as one of the message
+-- a refusal of the to-do with this number, as one of the message
 abbrev pub of_todo : ℕ → TodoRefusal → MessageRefusal
 of_todo number refusal = in_todo number (cause.Todo refusal.cause) refusal.line
 
--- a canonical form is too large that the to-do of this number gives
+-- the to-do with this number gives a canonical form that is too large
 abbrev pub large_form : ℕ → MessageRefusal
 large_form number = in_todo number cause.LargeForm None
 
@@ -37,7 +37,7 @@ abbrev pub line_gives : line_error.LineError → ReadError
 line_gives line_error.TheVariants.NoMemory = error.NoMemory
 line_gives (line_error.TheVariants.Refused refusal) = error.Refused (of_lines refusal)
 
--- an error of the to-do of this number, as one of the message
+-- an error of the to-do with this number, as one of the message
 abbrev pub todo_gives : ℕ → todo_error.TodoError → ReadError
 todo_gives number todo_error.TheVariants.NoMemory = error.NoMemory
 todo_gives number (todo_error.TheVariants.Refused refusal) = error.Refused (of_todo number refusal)
@@ -47,7 +47,7 @@ abbrev pub form_gives : FormError → ReadError
 form_gives form_error.NoMemory = error.NoMemory
 form_gives (form_error.TooLarge todo) = error.Refused (large_form todo)
 
--- of an error: nothing where an allocation failed, and otherwise P of the refusal
+-- P holds for the refusal, unless the error is a failed allocation
 abbrev pub IfRefused : ReadError → (MessageRefusal → Type 0) → Type 0
 IfRefused error.NoMemory P = Unit {0}
 IfRefused (error.Refused refusal) P = P refusal

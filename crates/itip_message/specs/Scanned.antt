@@ -10,16 +10,16 @@ abbrev pub begins_blank : List ℕ → Bool
 begins_blank [] = false
 begins_blank (b ∷ bytes) = is_blank b
 
--- LF (10) ends a line, unless a blank stands behind it: that is a fold
+-- LF (10) ends a line, unless a blank follows it: that is a fold
 abbrev pub ends_line : ℕ → List ℕ → Bool
 ends_line b after = b == 10 && not (begins_blank after)
 
--- The lines of some octets as they came, each with its folds and with its break, which the last may lack.
+-- The lines of some bytes as they came, each with its folds and with its break, which the last may lack.
 abbrev pub lines_of : List ℕ → List (List ℕ)
 lines_of [] = []
 lines_of (b ∷ bytes) = if ends_line b bytes then (b ∷ []) ∷ lines_of bytes else onto_first b (lines_of bytes)
 
--- how many octets the first line has
+-- the length of the first line in bytes
 abbrev pub line_length : List ℕ → ℕ
 line_length [] = 0
 line_length (b ∷ bytes) = if ends_line b bytes then 1 else suc (line_length bytes)
@@ -29,7 +29,7 @@ abbrev pub is_return : ℕ → List ℕ → Bool
 is_return b [] = false
 is_return b (c ∷ bytes) = b == 13 && c == 10
 
--- What a line says: its octets without breaks and without the blank behind each. The flag tells that a break stands before.
+-- What a line says: its bytes without breaks and without the blank after each. The flag says that a break comes before.
 abbrev pub said_behind : Bool → List ℕ → List ℕ
 said_behind behind [] = []
 said_behind behind (b ∷ bytes) =
@@ -40,7 +40,7 @@ said_behind behind (b ∷ bytes) =
 abbrev pub said : List ℕ → List ℕ
 said line = said_behind false line
 
--- A line says a word, given in upper case, without regard to case.
+-- A line says a word, which is given in upper case, regardless of case.
 abbrev pub says : List ℕ → List ℕ → Bool
 says line word = same_text (map to_ascii_uppercase (said line)) word
 
@@ -64,11 +64,11 @@ texts_of (group ∷ groups) = if list_all is_empty group then texts_of groups el
 unfoldable pub messages_of : List ℕ → List (List ℕ)
 messages_of bytes = texts_of (groups_of (lines_of bytes))
 
--- the first message of some octets, and what follows it
+-- the first message of some bytes, and what follows it
 pub record CutsMessage (bytes message after : List ℕ) : Type 0 where
   pub messages : messages_of bytes ≡ message ∷ messages_of after
   pub shorter : length after < length bytes
 
--- the first message of some octets, and what follows it, whatever octets come behind these
+-- the first message of some bytes, and what follows it, whatever bytes come after these
 abbrev pub StaysCut : List ℕ → List ℕ → List ℕ → Type 0
 StaysCut bytes message after = (more : List ℕ) → CutsMessage (bytes ++ more) message (after ++ more)

@@ -1,4 +1,4 @@
-//! A message of which only the beginning came, and the few octets that stand for a long one.
+//! A message of which only the beginning has arrived, and the few bytes that stand in for a long one.
 ghost use Rattle.std.specs.Prelude.{◌≡◌, ◌≤◌, ◌∷◌, ◌++◌, [], ℕ, List, true, false, length, MatchOption, IfOk};
 ghost use Rattle.itip_message.specs.Begun.{begun_line, break_before, few_octets, stand_in_limit};
 ghost use Rattle.itip_message.specs.Begun.{IsBegun, IsSaid, PassesLine, SaysTheSame, StandsIn};
@@ -6,10 +6,10 @@ ghost use Rattle.itip_message.specs.Begun.{IsBegun, IsSaid, PassesLine, SaysTheS
 use crate::cutting::{LF, is_left_out};
 use std::alloc::{AllocError, Global};
 
-/// Octets that begin a message, or empty lines, where it is not known yet where that message ends.
+/// The beginning of a message whose end isn't known yet, or empty lines.
 #[derive(Clone, Copy)]
 pub struct BegunMessage<'a> {
-    /// All of them.
+    /// All bytes so far.
     pub octets: &'a [u8],
     /// Whether the lines before the last are all empty.
     pub all_empty: bool,
@@ -17,18 +17,18 @@ pub struct BegunMessage<'a> {
     pub line: &'a [u8],
 }
 
-/// A line up to its last octet.
+/// A line up to its last byte.
 #[derive(Clone, Copy)]
 pub(crate) struct LineFront {
-    /// What it says: a front of END:VCALENDAR, without regard to case, or another text for anything else.
+    /// What it says before its last byte: a prefix of END:VCALENDAR, regardless of case, or one other text for anything else.
     pub said: &'static [u8],
-    /// Whether a break stands before the last octet.
+    /// Whether the last byte follows a line break.
     pub is_behind: bool,
     pub last: u8,
 }
 
-/// A few octets, at most 20, that stand for those of a message that has begun: whatever follows, they are cut as these are, into
-/// the same messages but for the first.
+/// Returns at most 20 bytes that stand in for a begun message of [`cut_message`](crate::cut_message): whatever follows, they are cut into
+/// the same messages as its bytes, except for the first.
 pub fn stand_in(alloc: Global, message: &BegunMessage<'_>) -> Result<Vec<u8>, AllocError>
     ensures stands { IfOk result (λ few. IsBegun message.now → StandsIn message.now.octets.now few.items) }
     ensures few { IfOk result (λ few. length few.items ≤ stand_in_limit) }
@@ -49,7 +49,7 @@ fn few_octets(alloc: Global, all_empty: bool, front: LineFront) -> Result<Vec<u8
     Ok(few)
 }
 
-/// A line that goes on and says nothing yet, behind one that says something unless all are empty.
+/// A line that goes on and says nothing yet, after one that says something unless all are to be empty.
 fn begun_line(all_empty: bool) -> &'static [u8]
     ensures { result.now ≡ begun_line all_empty }
 {
@@ -62,7 +62,7 @@ fn break_before(is_behind: bool) -> &'static [u8]
     if is_behind { b"\n" } else { b"" }
 }
 
-/// A line up to its last octet; none where it has no octet.
+/// Reads a line up to its last byte. Returns `None` if it is empty.
 fn line_front(line: &[u8]) -> Option<LineFront>
     ensures { MatchOption result (line.now ≡ []) (λ front. PassesLine line.now front.said.now front.is_behind (front.last ∷ [])) }
 {
@@ -84,7 +84,7 @@ fn line_front(line: &[u8]) -> Option<LineFront>
     None
 }
 
-/// What is said with an octet more, which may be left out.
+/// What is said with one more byte, which may be left out.
 fn said_with(said: &'static [u8], octet: u8, is_out: bool) -> &'static [u8]
     requires { IsSaid said.now }
     ensures said { IsSaid result.now }

@@ -25,11 +25,12 @@ use std::marker::Model;
 
 /// A to-do that a program makes, line by line.
 ///
-/// Each line is read at once, as a content line of a message (RFC 5545 3.1): what isn't one is refused, and so is a line that begins
-/// or ends a component. [`todo`](TodoBuilder::todo) and [`item`](TodoBuilder::item) read the lines together, as those of a VTODO of
-/// a REQUEST, and refuse what a VTODO of a message would be refused for: the limits of a message as a whole don't count. A refusal has
-/// the number of the line, from 1 for that of UID and 2 for that of DTSTAMP. UIDs, addresses and rules have no line break (2), so that
-/// none is folded into another, and zones no octet that no value of a parameter has (2).
+/// Each line is read as it is added, as a content line of a message (RFC 5545 3.1): anything else is refused, and so is a line that
+/// begins or ends a component. A call that fails leaves the builder unchanged. [`todo`](TodoBuilder::todo) and
+/// [`item`](TodoBuilder::item) read the lines together as a VTODO of a REQUEST, and refuse what would be refused there; the limits of a
+/// message as a whole don't apply. A refusal has the number of the line, 1 for UID and 2 for DTSTAMP. A UID, address or rule with a line
+/// break is refused (2), so that nothing is folded into another line, and so is a zone with an octet that a parameter value can't have
+/// (2). Numbers in parentheses are those of [`MessageRefusal::number`].
 #[derive(Debug, Drop)]
 pub struct TodoBuilder {
     lines: Vec<NumberedLine<'static>>,
@@ -63,9 +64,9 @@ impl TodoBuilder {
     ghost use Rattle.itip_message.specs.Building.{moment_line_text, next_number, RefusesMade, GivesItem, RefusesItem};
     ghost use Rattle.itip_message.specs.Message.{ReadsMessage};
 
-    /// A to-do of a UID and a DTSTAMP.
+    /// Returns a to-do with a UID and a DTSTAMP.
     ///
-    /// Refused where the UID has a line break or gives no line (1, 2, 14).
+    /// Refused if the UID has a line break or doesn't make a content line (1, 2, 14).
     pub fn new(alloc: Global, uid: &str, stamp: Stamp) -> Result<TodoBuilder, ReadError>
         ensures begun { IfOk result (BeginsWith uid.now (stamp_text stamp)) }
         ensures refused { IfErr result (λ e. IfRefused e (RefusesBeginning uid.now)) }
@@ -89,7 +90,7 @@ impl TodoBuilder {
         self.put("SEQUENCE:", digits.as_str())
     }
 
-    /// Adds ORGANIZER with an address, as `mailto:ines@example.com`.
+    /// Adds ORGANIZER with an address, such as `mailto:ines@example.com`.
     pub fn organizer(&mut self, address: &str) -> Result<(), ReadError>
         ensures added { OnOk result (Adds (codes "ORGANIZER:" ++ address.now) self.old self.new) }
         ensures whole { OnOk result (HasNoLf address.now) }
@@ -99,7 +100,7 @@ impl TodoBuilder {
         self.put_value("ORGANIZER:", address)
     }
 
-    /// Adds an ATTENDEE with an address, as `mailto:omar@example.com`. One with parameters is a [`line`](TodoBuilder::line).
+    /// Adds an ATTENDEE with an address, such as `mailto:omar@example.com`. For one with parameters use [`line`](TodoBuilder::line).
     pub fn attendee(&mut self, address: &str) -> Result<(), ReadError>
         ensures added { OnOk result (Adds (codes "ATTENDEE:" ++ address.now) self.old self.new) }
         ensures whole { OnOk result (HasNoLf address.now) }
@@ -109,10 +110,10 @@ impl TodoBuilder {
         self.put_value("ATTENDEE:", address)
     }
 
-    /// Adds DTSTART, with the zone of the moment where it has one.
+    /// Adds DTSTART, with the zone of the moment if it has one.
     ///
-    /// Refused where the zone has an octet that no value of a parameter has, as a line break or a quote (2), or the line
-    /// is longer than a text (1) or a line (14) may be.
+    /// Refused if the zone has an octet that a parameter value can't have, such as a line break or a quote (2), or if the line is longer
+    /// than a text (1) or a line (14) may be.
     pub fn start(&mut self, moment: &Moment) -> Result<(), ReadError>
         ensures added { OnOk result (AddsMoment (codes "DTSTART") moment.now self.old self.new) }
         ensures refused { IfErr result (λ e. IfRefused e (RefusesMoment (codes "DTSTART") moment.now (next_number self.old))) }
@@ -121,7 +122,7 @@ impl TodoBuilder {
         self.moment("DTSTART", moment)
     }
 
-    /// Adds DUE. Refused as DTSTART is.
+    /// Adds DUE. Refused as [`start`](TodoBuilder::start) is.
     pub fn due(&mut self, moment: &Moment) -> Result<(), ReadError>
         ensures added { OnOk result (AddsMoment (codes "DUE") moment.now self.old self.new) }
         ensures refused { IfErr result (λ e. IfRefused e (RefusesMoment (codes "DUE") moment.now (next_number self.old))) }
@@ -130,7 +131,7 @@ impl TodoBuilder {
         self.moment("DUE", moment)
     }
 
-    /// Adds RECURRENCE-ID: the to-do is of this instance. Refused as DTSTART is.
+    /// Adds RECURRENCE-ID: the to-do is of this instance. Refused as [`start`](TodoBuilder::start) is.
     pub fn instance(&mut self, moment: &Moment) -> Result<(), ReadError>
         ensures added { OnOk result (AddsMoment (codes "RECURRENCE-ID") moment.now self.old self.new) }
         ensures refused { IfErr result (λ e. IfRefused e (RefusesMoment (codes "RECURRENCE-ID") moment.now (next_number self.old))) }
@@ -139,7 +140,7 @@ impl TodoBuilder {
         self.moment("RECURRENCE-ID", moment)
     }
 
-    /// Adds RRULE, as `FREQ=WEEKLY;COUNT=3`.
+    /// Adds RRULE, such as `FREQ=WEEKLY;COUNT=3`.
     pub fn rule(&mut self, rule: &str) -> Result<(), ReadError>
         ensures added { OnOk result (Adds (codes "RRULE:" ++ rule.now) self.old self.new) }
         ensures whole { OnOk result (HasNoLf rule.now) }
@@ -149,8 +150,8 @@ impl TodoBuilder {
         self.put_value("RRULE:", rule)
     }
 
-    /// Adds SUMMARY of a text, whose backslashes, semicolons, commas and line feeds are written as RFC 5545 3.3.11 has them. A carriage
-    /// return is refused (2), as every other control character of one byte (C0 or DEL) but a tab.
+    /// Adds SUMMARY with a text, whose backslashes, semicolons, commas and line feeds are escaped as in RFC 5545 3.3.11. A carriage
+    /// return is refused (2), and so is every other control character of one byte (C0 or DEL) except a tab.
     pub fn summary(&mut self, words: &str) -> Result<(), ReadError>
         ensures added { OnOk result (Adds (codes "SUMMARY:" ++ text_value words.now) self.old self.new) }
         ensures refused { IfErr result (λ e. IfRefused e (RefusesText (codes "SUMMARY:" ++ text_value words.now) (next_number self.old))) }
@@ -161,9 +162,9 @@ impl TodoBuilder {
         self.add(text.as_slice())
     }
 
-    /// Adds any other property, as its line stands in a message, with its parameters: `ATTENDEE;RSVP=TRUE:mailto:omar@example.com`.
+    /// Adds any other property as its line in a message, with its parameters: `ATTENDEE;RSVP=TRUE:mailto:omar@example.com`.
     ///
-    /// Refused where the text is no content line or more than one (1, 2, 14), or where it begins or ends a component (4).
+    /// Refused if the text isn't exactly one content line (1, 2, 14), or if it begins or ends a component (4).
     pub fn line(&mut self, text: &str) -> Result<(), ReadError>
         ensures added { OnOk result (Adds text.now self.old self.new) }
         ensures refused { IfErr result (λ e. IfRefused e (RefusesText text.now (next_number self.old))) }
@@ -172,9 +173,9 @@ impl TodoBuilder {
         self.add(text.as_bytes())
     }
 
-    /// The to-do of the lines, with the SEQUENCE that was given.
+    /// Returns the to-do of the lines, with the SEQUENCE that was given.
     ///
-    /// Refused where they are none (10 to 12, 14, 15).
+    /// Refused if they don't make a to-do (10 to 12, 14, 15).
     pub fn todo(&self) -> Result<Todo, ReadError>
         ensures found { IfOk result (ReadsTodo (plain_lines self.now)) }
         ensures fault { IfErr result (λ e. IfRefused e (RefusesMade self.now)) }
@@ -185,9 +186,9 @@ impl TodoBuilder {
         }
     }
 
-    /// The item that a REQUEST of this to-do alone gives. Its octets are a message that gives the item again.
+    /// Returns the item that a REQUEST of this to-do alone gives. Its bytes are a message that gives the same item.
     ///
-    /// Refused where the lines are no to-do (10 to 12, 14, 15), or where the item is too large (14).
+    /// Refused if the lines don't make a to-do (10 to 12, 14, 15), or if the item is too large (14).
     pub fn item(&self) -> Result<Item, ReadError>
         ensures found { IfOk result (GivesItem self.now) }
         ensures read_again { IfOk result (λ item. ReadsMessage item.bytes (item ∷ [])) }
@@ -202,14 +203,14 @@ impl TodoBuilder {
         }
     }
 
-    /// The allocator. None of the lines begins or ends a component.
+    /// The allocator. The contract recalls that none of the lines begins or ends a component.
     fn alloc(&self) -> Global
         ensures { IsTrue (list_all is_property (plain_lines self.now)) }
     {
         *self.lines.allocator()
     }
 
-    /// Adds the line of a front, which ends in a colon, and a value that has no line break.
+    /// Adds the line of `front`, which ends in a colon, and `value`. A value with a line break is refused.
     fn put_value(&mut self, front: &str, value: &str) -> Result<(), ReadError>
         ensures added { OnOk result (Adds (front.now ++ value.now) self.old self.new) }
         ensures whole { OnOk result (HasNoLf value.now) }
@@ -223,7 +224,7 @@ impl TodoBuilder {
         Err(refused(MessageCause::Lines(LineCause::BadLine), number))
     }
 
-    /// Adds the line of a front, which ends in a colon, and a value.
+    /// Adds the line of `front`, which ends in a colon, and `value`.
     fn put(&mut self, front: &str, value: &str) -> Result<(), ReadError>
         ensures added { OnOk result (Adds (front.now ++ value.now) self.old self.new) }
         ensures refused { IfErr result (λ e. IfRefused e (RefusesText (front.now ++ value.now) (next_number self.old))) }
@@ -234,7 +235,7 @@ impl TodoBuilder {
         self.add(text.as_slice())
     }
 
-    /// Adds the line of a name and a moment, whose zone can be the value of a parameter.
+    /// Adds the line of a name and a moment. A zone that can't be a parameter value is refused.
     fn moment(&mut self, name: &str, moment: &Moment) -> Result<(), ReadError>
         requires { IsName name.now }
         ensures added { OnOk result (AddsMoment name.now moment.now self.old self.new) }
@@ -248,7 +249,7 @@ impl TodoBuilder {
         Err(refused(MessageCause::Lines(LineCause::BadLine), number))
     }
 
-    /// Adds the line of a name and a moment, with TZID where it is in a zone.
+    /// Adds the line of a name and a moment, with TZID if it is in a zone.
     fn put_moment(&mut self, name: &str, moment: &Moment) -> Result<(), ReadError>
         ensures added { OnOk result (Adds (moment_line_text name.now moment.now) self.old self.new) }
         ensures refused { IfErr result (λ e. IfRefused e (RefusesText (moment_line_text name.now moment.now) (next_number self.old))) }
@@ -259,7 +260,7 @@ impl TodoBuilder {
         self.add(text.as_slice())
     }
 
-    /// Adds the line that a text is.
+    /// Adds `text` as one line.
     fn add(&mut self, text: &[u8]) -> Result<(), ReadError>
         ensures added { OnOk result (Adds text.now self.old self.new) }
         ensures refused { IfErr result (λ e. IfRefused e (RefusesText text.now (next_number self.old))) }
@@ -279,7 +280,7 @@ fn is_unbroken(text: &str) -> bool
     text.as_bytes().iter().all(|octet| *octet != b'\n')
 }
 
-/// Whether the zone of a moment, where it has one, can be the value of a parameter.
+/// Whether the zone of a moment, if it has one, can be a parameter value.
 fn has_lawful_zone(moment: &Moment) -> bool
     ensures { result ≡ has_lawful_zone moment.now }
 {
@@ -289,7 +290,7 @@ fn has_lawful_zone(moment: &Moment) -> bool
     }
 }
 
-/// Whether a text can be the value of a parameter, in quotes where it needs them.
+/// Whether a text can be a parameter value, in quotes if it needs them.
 fn is_quotable(text: &str) -> bool
     ensures { result ≡ list_all is_quotable_octet text.now }
 {
@@ -304,7 +305,7 @@ fn is_quotable_octet(octet: u8) -> bool
     !matches!(octet, 0..=8 | 10..=31 | 127) && octet != b'"'
 }
 
-/// The property that a text is, as the line of a number.
+/// Reads a text as one property. A refusal names line `number`.
 fn read_property(alloc: Global, text: &[u8], number: usize) -> Result<SeenLine<'static>, ReadError>
     ensures found { IfOk result (IsOneProperty text.now) }
     ensures refused { IfErr result (λ e. IfRefused e (RefusesText text.now number)) }
@@ -328,7 +329,7 @@ fn read_property(alloc: Global, text: &[u8], number: usize) -> Result<SeenLine<'
     }
 }
 
-/// The error of this cause in the line of a number.
+/// The error for this cause on the line with this number.
 fn refused(cause: MessageCause, number: usize) -> ReadError
     ensures { result ≡ error.Refused (at_line cause (Some number)) }
 {
@@ -342,7 +343,7 @@ fn is_property(line: &SeenLine<'_>) -> bool
     !(is_begin(line) || is_end(line))
 }
 
-/// A to-do as the only one.
+/// This to-do alone, as a vector.
 fn alone(alloc: Global, todo: Todo) -> Result<Vec<Todo>, NoMemory>
     ensures { IfOk result (λ all. all.items ≡ todo ∷ []) }
 {
@@ -351,7 +352,7 @@ fn alone(alloc: Global, todo: Todo) -> Result<Vec<Todo>, NoMemory>
     Ok(all)
 }
 
-/// The only one of some values.
+/// The only one of some values. `None` if there are none or several.
 fn only<T: Drop>(values: Vec<T>) -> Option<T>
     ensures { MatchOption result (length values.items ≢ 1) (λ value. values.items ≡ value ∷ []) }
 {
@@ -362,7 +363,7 @@ fn only<T: Drop>(values: Vec<T>) -> Option<T>
     values.pop()
 }
 
-/// Appends TZID of a moment in a zone, a colon, and the moment.
+/// Appends the TZID of a moment in a zone, a colon, and the moment.
 fn push_moment(moment: &Moment, out: &mut Vec<u8>) -> Result<(), NoMemory>
     ensures { OnOk result (out.new.items ≡ out.old.items ++ (params_text (zone_params moment.now) ++ 58 ∷ moment_text moment.now)) }
 {

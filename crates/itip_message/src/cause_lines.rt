@@ -8,7 +8,7 @@ use itip_items::MethodCause;
 use itip_lines::NumberedLine;
 use itip_todo::PropertyName;
 
-/// The number of the line of these lines of a to-do in which it is not what its method needs; `None` where something is missing.
+/// The number of the line of a to-do that isn't what its method needs; `None` if something is missing.
 pub(crate) fn line_of_cause(cause: MethodCause, lines: &[NumberedLine<'_>]) -> Option<usize>
     ensures { result ≡ line_of_cause cause lines.now }
 {
@@ -64,7 +64,7 @@ pub(crate) fn is_named(property: PropertyName, line: &NumberedLine<'_>) -> bool
     PropertyName::named(line.line.name()) == property
 }
 
-/// Whether a line has the name of a property that makes a to-do one of an instance, or lets it recur.
+/// Whether a line has the name of a property that makes a to-do one of an instance or lets it recur.
 fn is_recurring(line: &NumberedLine<'_>) -> bool
     ensures { result ≡ is_recurring line.now }
 {

@@ -25,7 +25,7 @@ pub(crate) fn read_components(
     Ok(all)
 }
 
-/// The to-do of a component, where it is what the method needs. The number of the to-do is given, from 1.
+/// The to-do of a component, if it is what the method needs. `number` is that of the to-do, from 1.
 fn read_component(
     alloc: Global,
     method: Method,

@@ -14,9 +14,9 @@ const CR: u8 = b'\r';
 
 pub(crate) const LF: u8 = b'\n';
 
-/// The first message of some octets, and what follows it. Empty lines alone are no message.
+/// Returns the first message of some bytes and what follows it, or `None` if there is none. Empty lines alone are no message.
 ///
-/// A message ends behind its line END:VCALENDAR, unfolded and without regard to case, or with the octets.
+/// A message ends after its line END:VCALENDAR, unfolded and regardless of case, or where the bytes end.
 pub fn next_message(bytes: &[u8]) -> Option<(&[u8], &[u8])>
     ensures { MatchOption result (messages_of bytes.now ≡ []) (λ cut. CutsMessage bytes.now cut.0.now cut.1.now) }
 {
@@ -33,11 +33,11 @@ pub fn next_message(bytes: &[u8]) -> Option<(&[u8], &[u8])>
     if all_empty { None } else { Some((bytes, &[])) }
 }
 
-/// The first message of some octets that others may follow, and what stands behind it; or else what is known of the message that
-/// these octets begin, where it is not known yet where it ends: a line is at its end only where an octet behind it shows that no
-/// fold goes on.
+/// Returns the first message of some bytes that others may follow, and what comes after it. The error is what is known of the message
+/// that the bytes begin, if its end isn't known yet: a line is known to be complete only if a byte after it shows that no fold continues
+/// it.
 ///
-/// A message is cut off wherever there is one that is the same whatever follows.
+/// A message is returned whenever there is one that is the same whatever follows.
 pub fn cut_message(bytes: &[u8]) -> Result<(&[u8], &[u8]), BegunMessage<'_>>
     ensures cut { IfOk result (λ cut. StaysCut bytes.now cut.0.now cut.1.now) }
     ensures finds { (message after : List ℕ) → StaysCut bytes.now message after → IsOk result }
@@ -61,7 +61,7 @@ pub fn cut_message(bytes: &[u8]) -> Result<(&[u8], &[u8]), BegunMessage<'_>>
     })
 }
 
-/// The first line as it came, with its folds and its break, and what follows it, where an octet behind shows that it is at its end.
+/// The first line as it came, with its folds and its break, and what follows it, if a byte after it shows that it is complete.
 pub(crate) fn whole_line(bytes: &[u8]) -> Option<(&[u8], &[u8])>
     ensures stays { IfSome result (λ cut. StaysFirstLine bytes.now cut.0.now cut.1.now) }
     ensures shorter { IfSome result (λ cut. length cut.1.now < length bytes.now) }
@@ -117,7 +117,7 @@ fn is_blank(b: u8) -> bool
     b == b' ' || b == b'\t'
 }
 
-/// Whether the octet is the CR of a break.
+/// Whether byte `b`, followed by `after`, is the CR of a line break.
 fn is_return(b: u8, after: &[u8]) -> bool
     ensures { result ≡ is_return b after.now }
 {
@@ -127,7 +127,7 @@ fn is_return(b: u8, after: &[u8]) -> bool
     }
 }
 
-/// Whether a line, unfolded and without regard to case, is END:VCALENDAR.
+/// Whether a line, unfolded and regardless of case, is END:VCALENDAR.
 pub(crate) fn ends_calendar(line: &[u8]) -> bool
     ensures { result ≡ ends_calendar line.now }
 {
@@ -140,7 +140,7 @@ fn is_empty(line: &[u8]) -> bool
     says(line, b"")
 }
 
-/// Whether a line, unfolded and without its break, is a word without regard to case. The word is given in upper case.
+/// Whether a line, unfolded and without its break, is `word` regardless of case. `word` is in upper case.
 fn says(line: &[u8], word: &[u8]) -> bool
     ensures { result ≡ says line.now word.now }
 {
@@ -159,7 +159,7 @@ fn says(line: &[u8], word: &[u8]) -> bool
     left.is_empty()
 }
 
-/// The first octet that a line says, and what follows it.
+/// The first byte that a line says, and what follows it.
 fn first_said(line: &[u8]) -> Option<(u8, &[u8])>
     ensures { MatchOption result (said line.now ≡ []) (λ cut. SaysFirst line.now cut.0 cut.1.now) }
 {
@@ -175,7 +175,7 @@ fn first_said(line: &[u8]) -> Option<(u8, &[u8])>
     None
 }
 
-/// Whether an octet is of a break, or is the blank behind one.
+/// Whether a byte is part of a line break, or is the blank after one.
 pub(crate) fn is_left_out(b: u8, is_behind: bool, after: &[u8]) -> bool
     ensures { result ≡ is_left_out b is_behind after.now }
 {

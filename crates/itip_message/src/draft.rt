@@ -16,11 +16,12 @@ use itip_lines::{Line, ListOf, NoMemory, NumberedLine, Params, SeenLine, Text, r
 use itip_todo::{PropertyName, Todo};
 use std::alloc::Global;
 
-/// The to-dos of a draft in their order, as a REQUEST gives them (RFC 5546 3.4.2), or the first cause why there are none.
+/// Returns the to-dos of a draft in order, as a REQUEST gives them (RFC 5546 3.4.2), or the first cause for refusing it.
 ///
-/// METHOD is not looked at, and of the to-dos neither DTSTAMP nor SEQUENCE: each comes out with DTSTAMP 19700101T000000Z and
-/// SEQUENCE 0, whatever it has or lacks. X-DESK-BASE is in canonical form: only an instance has it, and above 0. The causes come in
-/// the order of reading: length, lines, frame, head, components, canonical forms. It is `NoMemory` only if an allocation failed.
+/// METHOD is ignored, and so are DTSTAMP and SEQUENCE of the to-dos: each is returned with DTSTAMP 19700101T000000Z and SEQUENCE 0,
+/// whatever it has or lacks. X-DESK-BASE is in canonical form: only a to-do with RECURRENCE-ID has it, and it is above 0. Causes are
+/// looked for in the order of reading: length, lines, frame, head, components, canonical forms. The error is `NoMemory` only if an
+/// allocation failed.
 pub fn read_draft(alloc: Global, text: &[u8]) -> Result<Vec<Todo>, ReadError>
     ensures found { IfOk result (λ todos. ReadsDraft text.now todos.items) }
     ensures fault { IfErr result (λ e. IfRefused e (RefusesDraft text.now)) }
@@ -31,7 +32,7 @@ pub fn read_draft(alloc: Global, text: &[u8]) -> Result<Vec<Todo>, ReadError>
     Ok(todos)
 }
 
-/// The to-dos of a draft as they stand, but for DTSTAMP and SEQUENCE, where each is what a REQUEST needs.
+/// The to-dos of a draft, unchanged except for DTSTAMP and SEQUENCE, if each is what a REQUEST needs.
 fn read_todos(alloc: Global, text: &[u8]) -> Result<Vec<Todo>, ReadError>
     ensures found { IfOk result (λ all. HasDraftTodos text.now all.items) }
     ensures fault { IfErr result (λ e. IfRefused e (RefusesDraft text.now)) }
@@ -59,7 +60,7 @@ fn todo_of(item: Item) -> Todo
     item.todo
 }
 
-/// The to-dos of a draft, each with DTSTAMP of the first second of 1970 in place of its lines of DTSTAMP and SEQUENCE.
+/// The to-dos of a draft, each with a DTSTAMP of the first second of 1970 in place of its DTSTAMP and SEQUENCE lines.
 fn date_all<'a>(
     alloc: Global,
     components: Vec<Component<'a>>,
@@ -71,7 +72,7 @@ fn date_all<'a>(
     Ok(all)
 }
 
-/// DTSTAMP of the first second of 1970.
+/// The DTSTAMP line of the first second of 1970.
 fn first_stamp(alloc: Global) -> Result<Line, NoMemory>
     ensures { IfOk result IsFirstStamp }
 {
@@ -84,7 +85,7 @@ fn first_stamp(alloc: Global) -> Result<Line, NoMemory>
     })
 }
 
-/// The to-dos of a draft, each with this line in place of its lines of DTSTAMP and SEQUENCE.
+/// The to-dos of a draft, each with this line in place of its DTSTAMP and SEQUENCE lines.
 fn date_with<'a>(
     alloc: Global,
     stamp: &Line,
@@ -99,8 +100,8 @@ fn date_with<'a>(
     Ok(all)
 }
 
-/// A to-do of a draft, with this line in place of its lines of DTSTAMP and SEQUENCE. It takes the number of the line in which the
-/// to-do begins, which no refusal names: nothing is wrong with it.
+/// A to-do of a draft, with this line in place of its DTSTAMP and SEQUENCE lines. The line gets the number of the one that begins the
+/// to-do. No refusal names it, since nothing is wrong with it.
 fn date<'a>(
     alloc: Global,
     stamp: &Line,
@@ -122,7 +123,7 @@ fn date<'a>(
     })
 }
 
-/// Adds those of these lines that are neither of DTSTAMP nor of SEQUENCE.
+/// Appends the other lines, except those of DTSTAMP and SEQUENCE.
 fn add_undated<'a>(
     lines: &mut Vec<NumberedLine<'a>>,
     others: Vec<NumberedLine<'a>>,
@@ -139,7 +140,7 @@ fn add_undated<'a>(
     Ok(())
 }
 
-/// Whether a line says neither when nor as which revision its to-do was sent.
+/// Whether a line says neither when its to-do was sent nor as which revision.
 fn is_undated(line: &NumberedLine<'_>) -> bool
     ensures { result ≡ is_undated line.now }
 {

@@ -1,4 +1,4 @@
-//! Why a text is no message, and where.
+//! Why a text isn't a message, and where.
 ghost use Rattle.std.specs.Prelude.{◌≡◌};
 ghost use Rattle.itip_message.specs.declared.error.ReadError.TheVariants.{NoMemory};
 ghost use Rattle.itip_message.specs.RefusalNumbers.{line_number, todo_number, method_number};
@@ -14,28 +14,29 @@ use thiserror::Error;
 /// What is wrong with a text: the first cause, in the order of reading.
 #[derive(Clone, Copy, PartialEq, Eq, Debug, Drop, Error)]
 pub enum MessageCause {
-    /// The text is not one of content lines.
+    /// The text doesn't consist of content lines.
     #[error("{0}")]
     Lines(LineCause),
-    /// An END is missing or doesn't match, components are nested deeper than 32, or a line stands after END:VCALENDAR.
+    /// An END is missing or doesn't match, components are nested more than 32 deep, a line follows END:VCALENDAR, or a line given to a
+    /// `TodoBuilder` begins or ends a component.
     #[error("components are badly nested")]
     Nesting,
     /// There is no line, or the first isn't BEGIN:VCALENDAR.
     #[error("no calendar begins")]
     NoCalendar,
-    /// VERSION isn't there exactly once with 2.0.
+    /// VERSION doesn't appear exactly once, with 2.0.
     #[error("the version isn't 2.0")]
     Version,
-    /// METHOD isn't there exactly once with one of the five methods.
+    /// METHOD doesn't appear exactly once, with one of the five methods.
     #[error("the method isn't one that is read")]
     Method,
-    /// No VTODO stands directly in the VCALENDAR.
+    /// No VTODO is directly in the VCALENDAR.
     #[error("there is no to-do")]
     NoTodo,
     /// There are more than 1,000 to-dos.
     #[error("there are more than 1,000 to-dos")]
     ManyTodos,
-    /// A VTODO is no to-do.
+    /// A VTODO can't be read as a to-do.
     #[error("{0}")]
     Todo(TodoCause),
     /// A to-do is not what its method needs.
@@ -102,14 +103,14 @@ fn method_number(cause: MethodCause) -> u32
     }
 }
 
-/// Why a text is no message: what is wrong, and where.
+/// Why a text isn't a message: what is wrong, and where.
 #[derive(Clone, Copy, PartialEq, Eq, Debug)]
 pub struct MessageRefusal {
     /// What is wrong.
     pub cause: MessageCause,
-    /// The number of the to-do, from 1, where the cause is that of one.
+    /// The number of the to-do, from 1, if the cause is one of a to-do.
     pub todo: Option<usize>,
-    /// The number of the line as it stands in the text, from 1, folded and empty lines counted; where it is folded that of its beginning.
+    /// The number of the line in the text, from 1, counting folded and empty lines; of a folded line, that of its beginning.
     pub line: Option<usize>,
 }
 
@@ -136,7 +137,8 @@ impl MessageRefusal {
     }
 }
 
-/// The cause, then the to-do and the line, where they are known: `DUE has a bad value in to-do 2, line 14`.
+/// The cause, then the to-do and the line, if known: `DUE has a bad value in to-do 2, line 14`. A fault of content lines is shown as a
+/// [`LineRefusal`].
 impl fmt::Display for MessageRefusal {
     fn fmt<W: fmt::Write>(&self, f: &mut fmt::Formatter<W>) -> fmt::Result {
         let MessageRefusal { cause, todo, line } = *self;
@@ -157,13 +159,13 @@ impl fmt::Display for MessageRefusal {
 
 impl std::error::Error for MessageRefusal {}
 
-/// Why no items were given.
+/// Why a message, a draft or a to-do of a `TodoBuilder` wasn't read.
 #[derive(Debug, Drop, Error)]
 pub enum ReadError {
     /// An allocation failed.
     #[error("no memory to read a message")]
     NoMemory,
-    /// The text is no message.
+    /// The text was refused.
     #[error("{0}")]
     Refused(MessageRefusal),
 }
@@ -218,7 +220,7 @@ impl From<FormError> for ReadError {
     }
 }
 
-/// The error of the to-do of a number, from 1, as one of the message.
+/// The error of the to-do with this number, from 1, as an error of its message.
 pub(crate) fn todo_gives(number: usize, error: TodoError) -> ReadError
     ensures { result ≡ todo_gives number error }
 {

@@ -1,4 +1,4 @@
-//! Components in components: which lines of a message stand where.
+//! Nested components: where each line of a message belongs.
 ghost use Rattle.std.specs.Prelude.{◌≡◌, ◌<◌, ◌∷◌, ◌++◌, [], ℕ, List, length, true, false, Some, IfOk, IfErr, Ok, Err};
 ghost use Rattle.std.specs.Str.{str_to_ascii_uppercase};
 ghost use Rattle.std.specs.Option.{option_to_list};
@@ -16,21 +16,21 @@ use itip_lines::{NoMemory, NumberedLine, SeenLine, Text};
 use std::alloc::Global;
 use std::vec::IntoIter;
 
-/// The deepest nesting of components, the VCALENDAR being the first (our own limit).
+/// The deepest nesting of components, counting the VCALENDAR (our own limit).
 const DEPTH_LIMIT: usize = 32;
 
-/// A line that a message is made of, as it stands. No function gives one; contracts of crates above speak of them.
+/// A line of a message, with its place. No public function returns one; contracts of dependent crates speak of them.
 #[derive(Drop)]
 pub enum Placed<'a> {
     /// A property directly in the VCALENDAR.
     CalendarLine(NumberedLine<'a>),
-    /// A VTODO begins directly in the VCALENDAR, in the line of this number.
+    /// A VTODO directly in the VCALENDAR begins on the line with this number.
     TodoBegins(usize),
     /// A property directly in that VTODO.
     TodoLine(NumberedLine<'a>),
 }
 
-/// The lines of a message as they are placed, those of other components left out (RFC 5545 3.4).
+/// Places the lines of a message, leaving out those of other components (RFC 5545 3.4).
 pub(crate) fn frame<'a>(
     alloc: Global,
     lines: Vec<NumberedLine<'a>>,
@@ -61,7 +61,7 @@ fn nested(line: Option<usize>) -> ReadError
     ReadError::Refused(MessageRefusal::at_line(MessageCause::Nesting, line))
 }
 
-/// The lines inside a component.
+/// Places the lines that follow the BEGIN of the component `name`.
 fn place_lines<'a>(
     alloc: Global,
     name: Text,
@@ -84,7 +84,7 @@ fn place_lines<'a>(
     Ok(placed)
 }
 
-/// Places one line, where these components are open, the innermost last.
+/// Places one line. `inside` has the names of the open components, the innermost last.
 fn place_line<'a>(
     alloc: Global,
     inside: &mut Vec<Text>,
@@ -114,7 +114,7 @@ fn place_line<'a>(
     Ok(property(inside, line))
 }
 
-/// Places the line that begins a component inside these.
+/// Places the line that begins a component inside those that are open.
 fn place_begin<'a>(
     alloc: Global,
     inside: &mut Vec<Text>,
@@ -136,7 +136,7 @@ fn place_begin<'a>(
     Ok(placed)
 }
 
-/// Places the line that ends a component: the innermost, or it is out of place.
+/// Places the line that ends a component. It has to end the innermost.
 fn place_end<'a>(
     alloc: Global,
     inside: &mut Vec<Text>,
@@ -181,10 +181,12 @@ fn component_name(alloc: Global, line: &SeenLine<'_>) -> Result<Text, NoMemory>
 pub(crate) fn upper_case(alloc: Global, text: &str) -> Result<Text, NoMemory>
     ensures { IfOk result (λ upper. upper ≡ str_to_ascii_uppercase text.now) }
 {
-    Text::upper(alloc, text)
+    let mut upper = Text::copy(alloc, text)?;
+    upper.make_ascii_uppercase();
+    Ok(upper)
 }
 
-/// What a component of this name adds that begins inside these, in the line of this number.
+/// What the BEGIN of a component of this name adds, on the line with this number, inside these open components.
 fn opening<'a>(inside: &[Text], name: &Text, number: usize) -> Option<Placed<'a>>
     ensures { option_to_list result ≡ opening (innermost_first inside.now) name.now number }
 {
@@ -194,7 +196,7 @@ fn opening<'a>(inside: &[Text], name: &Text, number: usize) -> Option<Placed<'a>
     None
 }
 
-/// Closes the innermost component, and says whether it has this name.
+/// Closes the innermost component, and returns whether it has this name.
 fn end(inside: &mut Vec<Text>, name: &Text) -> bool
     ensures { (inner : List ℕ) (outer : List (List ℕ)) → inside.old.items ≡ outer ++ inner ∷ []
         → (result ≡ same_text name.now inner) × (inside.new.items ≡ outer) }
@@ -202,7 +204,7 @@ fn end(inside: &mut Vec<Text>, name: &Text) -> bool
     inside.pop().is_some_and(|inner| *name == inner)
 }
 
-/// What a property inside these components adds.
+/// What a property inside these open components adds.
 fn property<'a>(inside: &[Text], line: NumberedLine<'a>) -> Option<Placed<'a>>
     ensures { option_to_list result ≡ property (innermost_first inside.now) line.entry }
 {

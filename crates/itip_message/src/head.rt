@@ -21,8 +21,8 @@ const TODO_LIMIT: usize = 1000;
 
 /// The method of a message with these properties in its VCALENDAR and these to-dos.
 ///
-/// VERSION is looked at first, then METHOD, then the number of to-dos. The place of a wrong VERSION or METHOD is the
-/// second of its lines, or the only one.
+/// VERSION is checked first, then METHOD, then the number of to-dos. A wrong VERSION or METHOD is refused at the second of its lines, or
+/// at the only one.
 pub(crate) fn read_head(
     alloc: Global,
     calendar: &[NumberedLine<'_>],
@@ -42,9 +42,9 @@ pub(crate) fn read_head(
     Ok(method)
 }
 
-/// That a draft with these properties in its VCALENDAR and these to-dos has the head of a REQUEST, whatever its METHOD is.
+/// Checks that a draft with these properties in its VCALENDAR and these to-dos has the head of a REQUEST, whatever its METHOD.
 ///
-/// VERSION is looked at first, then the number of to-dos.
+/// VERSION is checked first, then the number of to-dos.
 pub(crate) fn read_draft_head(
     calendar: &[NumberedLine<'_>],
     components: &[Component<'_>],
@@ -69,7 +69,7 @@ fn has_version(calendar: &[NumberedLine<'_>]) -> bool
     }
 }
 
-/// The method that METHOD names, where it appears once, with the name of one that is read.
+/// The method that METHOD names, if it appears once and names one that is read.
 fn method_in(alloc: Global, calendar: &[NumberedLine<'_>]) -> Result<Option<Method>, NoMemory>
     ensures { IfOk result (λ found. found ≡ method_in (only_value (named (codes "METHOD") calendar.now))) }
 {
@@ -80,7 +80,7 @@ fn method_in(alloc: Global, calendar: &[NumberedLine<'_>]) -> Result<Option<Meth
     Ok(method_named(name.as_str()))
 }
 
-/// That there are to-dos, and not too many.
+/// Checks that there are to-dos, and not too many.
 fn check_count(components: &[Component<'_>]) -> Result<(), ReadError>
     ensures found { OnOk result ((line : Option ℕ) (m : Method) → counted components.now line (Some m) ≡ Ok m) }
     ensures fault { IfErr result (λ e. IfRefused e (λ f. (line : Option ℕ) (m : Method) → counted components.now line (Some m) ≡ Err f)) }
@@ -101,7 +101,7 @@ fn wrong(cause: MessageCause, line: Option<usize>) -> ReadError
     ReadError::Refused(MessageRefusal::at_line(cause, line))
 }
 
-/// The value of the one line of a name.
+/// The value of the only line with this name.
 fn only_value<'a>(lines: &'a [NumberedLine<'_>], name: &str) -> Option<&'a str>
     ensures { option_map (λ value. value.now) result ≡ only_value (named name.now lines.now) }
 {
@@ -117,7 +117,7 @@ fn only_value<'a>(lines: &'a [NumberedLine<'_>], name: &str) -> Option<&'a str>
     found
 }
 
-/// The number of the second line of a name, or of the only one.
+/// The number of the second line with this name, or of the only one.
 fn odd_line(lines: &[NumberedLine<'_>], name: &str) -> Option<usize>
     ensures { result ≡ odd_line (named name.now lines.now) }
 {

@@ -1,4 +1,4 @@
-//! What holds of messages. The functions do nothing: their contracts are the laws.
+//! What holds for messages. The functions do nothing: their contracts are the laws.
 ghost use Rattle.std.specs.Prelude.{◌≡◌, ◌⊎◌, ◌∷◌, [], List, ℕ, map};
 ghost use Rattle.std.specs.List.{AllByRecursion};
 ghost use Rattle.itip_message.specs.Cutting.{IsCutInto};
@@ -14,20 +14,20 @@ ghost use Rattle.itip_todo.specs.Limits.{present, before_ranges};
 ghost use Rattle.itip_todo.specs.PartsOf.{parts_of};
 ghost use Rattle.itip_todo.specs.declared.todo.Todo.{Todo};
 
-/// Octets are cut into messages in one way, and only in one.
+/// Bytes are cut into messages in exactly one way.
 pub fn message_cutting()
     ensures some { (bytes : List ℕ) → (messages : List (List ℕ)) × IsCutInto bytes messages }
     ensures one { (bytes : List ℕ) (messages others : List (List ℕ))
         → IsCutInto bytes messages → IsCutInto bytes others → messages ≡ others }
 {}
 
-/// The canonical octets of an item are a message that gives this one item.
+/// The canonical bytes of an item are a message that gives this one item.
 pub fn read_again()
     ensures { (item : Item) → ReadsMessage item.bytes (item ∷ []) }
 {}
 
-/// A text is read as one list of items, or it is refused for one cause in one place, and not both. The place is a to-do
-/// exactly where the cause is one of a to-do.
+/// A text is either read as one list of items or refused for one cause in one place. The place is a to-do exactly if the cause is one of
+/// a to-do.
 pub fn one_reading()
     ensures some { (bytes : List ℕ)
         → ((items : List Item) × ReadsMessage bytes items) ⊎ ((refusal : MessageRefusal) × RefusesMessage bytes refusal) }
@@ -40,16 +40,16 @@ pub fn one_reading()
     ensures place { (bytes : List ℕ) (refusal : MessageRefusal) → RefusesMessage bytes refusal → NamesPlace refusal }
 {}
 
-/// A message that was read before instances had ranges is read as the same items, and so are the messages of a delta: before, RANGE
-/// was refused, and more than 500 attendees of a to-do were. What differs is a limit of reading, of which these are two values.
+/// A message that was read before instances had ranges is read as the same items, and so are the messages of a delta. Back then, RANGE
+/// was refused, and so were more than 500 attendees of a to-do. The two readings differ only in their limits.
 pub fn read_as_before()
     ensures message { (bytes : List ℕ) (items : List Item) → ReadsMessageWithin before_ranges bytes items → ReadsMessage bytes items }
     ensures messages { (bytes : List ℕ) (given : List (List Item))
         → ReadsMessagesWithin before_ranges bytes given → ReadsMessagesWithin present bytes given }
 {}
 
-/// A text is read as the to-dos of one draft, or it is refused for one cause in one place, and not both. None of the to-dos has a
-/// DTSTAMP and a SEQUENCE of its own, each has its X-DESK-BASE in canonical form, and each may be sent in a REQUEST.
+/// A text is either read as the to-dos of one draft or refused for one cause in one place. None of the to-dos has a DTSTAMP or a SEQUENCE
+/// of its own, each has its X-DESK-BASE in canonical form, and each may be sent in a REQUEST.
 pub fn one_draft()
     ensures some { (bytes : List ℕ)
         → ((all : List Todo) × ReadsDraft bytes all) ⊎ ((refusal : MessageRefusal) × RefusesDraft bytes refusal) }

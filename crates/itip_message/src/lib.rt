@@ -1,5 +1,5 @@
-//! Messages (RFC 5546 3.4): octets are cut into messages, and a message is read into items. The canonical octets of an
-//! item are read as that one item.
+//! Messages (RFC 5546 3.4): bytes are cut into messages, and a message is read into items. The canonical bytes of an item are read as
+//! that one item.
 #![tactic(auto)]
 
 mod begun;

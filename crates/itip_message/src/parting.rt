@@ -1,11 +1,11 @@
-//! Octets in parts that are cut into messages apart, each on a thread of its own.
+//! Splitting bytes into parts that can be cut into messages separately, each on its own thread.
 ghost use Rattle.std.specs.Prelude.{IfSome};
 ghost use Rattle.itip_message.specs.Parting.{StaysParted};
 
 use crate::cutting::{ends_calendar, whole_line};
 
-/// Octets that others may follow, in two parts: the first ends with the first line END:VCALENDAR that begins behind the line in
-/// which this place is. The messages of both parts are those of the octets. `None` where no such line is known to be at its end.
+/// Splits bytes that others may follow in two, after the first line END:VCALENDAR that begins after the line with the byte at `place`.
+/// The messages of both parts together are those of the bytes. Returns `None` if no such line is known to be complete.
 pub fn part_messages(bytes: &[u8], place: usize) -> Option<(&[u8], &[u8])>
     ensures { IfSome result (λ parts. StaysParted bytes.now parts.0.now parts.1.now) }
 {

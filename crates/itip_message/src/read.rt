@@ -12,10 +12,10 @@ use itip_items::{Item, make_items};
 use itip_lines::read_lines;
 use std::alloc::Global;
 
-/// The items of a message (RFC 5546 3.4), by to-do and then by ATTENDEE line, or the first cause why there are none.
+/// Returns the items of a message (RFC 5546 3.4), by to-do and then by ATTENDEE line, or the first cause for refusing it.
 ///
-/// The causes come in the order of reading: length, lines, frame, head, components, canonical forms. It is
-/// `NoMemory` only if an allocation failed.
+/// Causes are looked for in the order of reading: length, lines, frame, head, components, canonical forms. The error is `NoMemory` only
+/// if an allocation failed.
 pub fn read_message(alloc: Global, text: &[u8]) -> Result<Vec<Item>, ReadError>
     ensures found { IfOk result (λ items. ReadsMessage text.now items.items) }
     ensures fault { IfErr result (λ e. IfRefused e (RefusesMessage text.now)) }

@@ -8,7 +8,7 @@ use crate::frame::Placed;
 use itip_lines::{ListOf, NoMemory, NumberedLine};
 use std::alloc::Global;
 
-/// A VTODO directly in the VCALENDAR. No function gives one; contracts of crates above speak of them.
+/// A VTODO directly in the VCALENDAR. No public function returns one; contracts of dependent crates speak of them.
 #[derive(Drop)]
 pub struct Component<'a> {
     /// The number of the line that begins it.
@@ -42,7 +42,7 @@ impl<'a> Component<'a> {
     }
 }
 
-/// The lines that are sorted so far.
+/// The lines sorted so far.
 #[derive(Drop)]
 pub(crate) struct Sorted<'a> {
     /// The properties directly in the VCALENDAR.
@@ -53,7 +53,7 @@ pub(crate) struct Sorted<'a> {
     pub open: Option<Component<'a>>,
 }
 
-/// Sorts lines as they are placed.
+/// Sorts placed lines into those of the VCALENDAR and its VTODOs.
 pub(crate) fn sort<'a>(
     alloc: Global,
     placed: Vec<Placed<'a>>,
@@ -79,7 +79,7 @@ pub(crate) fn sort<'a>(
     Ok((calendar, closed))
 }
 
-/// Sorts one line more.
+/// Sorts one more line.
 fn put<'a>(alloc: Global, sorted: &mut Sorted<'a>, placed: Placed<'a>) -> Result<(), NoMemory>
     ensures { OnOk result ((rest : List Placed) → Continues sorted.old sorted.new placed.entry rest) }
 {

@@ -4,11 +4,11 @@ use Rattle.std.proofs.Common.{◌-ℤ◌, ◌≤ℤ◌, unsigned_abs, subst}
 use Rattle.std.proofs.lemmas.Int.{by_lt_z}
 use borrow.Author.Tests.{ltb-true, ltb-false}
 use Rattle.jiff.specs.Types.{Date as CalendarDate}
-use Rattle.jiff.specs.Words.{epoch_day, days_in_month, IsYmd}
+use Rattle.jiff.specs.Words.{epoch_day, days_in_month}
 use Rattle.jiff_core.specs.Calendar.{day_count, days_from_civil}
 use Rattle.jiff_core.proofs.SignedLemmas.{signed_arith}
 use Rattle.jiff_core.proofs.CalendarLemmas.{days_from_civil-day_count, days_in_month_bounds, day_count-day_of_year, day_count-later_year}
-use Rattle.jiff_core.proofs.CalendarLemmas.{day_count-next_year, day_count-end, day_count-epoch}
+use Rattle.jiff_core.proofs.CalendarLemmas.{day_count-next_year, day_count-end}
 use Rattle.jiff_core.proofs.MarchLemmas.{day_count-early}
 use Rattle.jiff_core.proofs.DateLemmas.{epoch_day_range, epoch_day_injective, days_from_civil-day, days_from_civil-next_month}
 use Rattle.jiff_core.proofs.DateLemmas.{days_from_civil-next_year}

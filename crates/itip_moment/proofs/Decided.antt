@@ -1,7 +1,6 @@
 -- Each text spells a date, a stamp or a moment, or it spells none.
-use Rattle.std.proofs.Common.{◌≡◌, ◌≢◌, ◌∙◌, sym, ap, refl, subst, ℕ, ◌+◌, ◌-◌, ◌*◌, ◌/◌, ◌%◌, ◌<◌, ◌≤◌, List, [], ◌∷◌, ◌++◌, length, take}
+use Rattle.std.proofs.Common.{◌≡◌, ◌∙◌, sym, ap, refl, subst, ℕ, ◌+◌, ◌-◌, ◌*◌, ◌/◌, ◌%◌, ◌<◌, ◌≤◌, List, [], ◌∷◌, ◌++◌, length, take}
 use Rattle.std.proofs.Common.{drop, get_or, arith, inl, inr, ◌⊎◌, Option, Some, None, ℤ, pos, min, length-append, take-append-drop}
-use Rattle.std.specs.Prelude.{unwrap_or}
 use Rattle.std.proofs.lemmas.Bool.Decides.{leb_tells, eqb_tells}
 use Rattle.std.proofs.lemmas.List.{drop_more, drop_all, get_or_at}
 use Rattle.jiff.specs.Types.{Date as CalendarDate}
@@ -253,7 +252,7 @@ decide_local text =
       ]
     ]
 
--- the same, and a last Z
+-- the same, and a final Z
 record IsUtc (text : List ℕ) : Type 0 where
   day : ℤ
   second : ℕ

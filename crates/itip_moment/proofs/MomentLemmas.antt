@@ -23,7 +23,7 @@ pub copied_or : (tzid : Option (Bor (List ℕ))) (default : Bor (List ℕ)) → 
 copied_or None default e = e
 copied_or (Some text) default e = refl
 
--- the zone of a moment is named by TZID where this is the text of TZID
+-- the zone of a moment is named by TZID if this is the text of TZID
 named : (tzid : Option (List ℕ)) (text : List ℕ) (zone : Name) → text ≡ unwrap_or tzid [] → Some text ≡ Some zone.bytes → tzid ≡ Some zone.bytes
 named None text zone e same = absurd (zone.not_empty (sym (Some-one same) ∙ e))
 named (Some tzid) text zone e same = ap Some (sym e ∙ Some-one same)

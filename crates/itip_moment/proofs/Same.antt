@@ -1,4 +1,4 @@
--- Days, stamps and moments are equal where their parts are, and so where their orders answer Equal.
+-- Days, stamps and moments are equal if their parts are, and so if their orders say Equal.
 use Rattle.std.proofs.Common.{◌≡◌, ℕ, ◌<◌, refl, ap, ap₂, arith, Option, Some, None, Bool, IsTrue, ◌↔◌, sym, ◌∙◌}
 use Rattle.std.specs.declared.cmp.Ordering.{Ordering}
 use Rattle.std.specs.declared.cmp.Ordering.TheVariants.{Less, Equal, Greater}
@@ -36,7 +36,7 @@ same_stamp a b d s =
       in_day = is_prop→PathP (λ j. s j < 86_400) (λ j. hlevel props) a.in_day b.in_day i;
     }
 
--- where one order and then another answer Equal, each does
+-- if one order and then another say Equal, each does
 pub then_equal : (r s : Ordering) → ordering_then r s ≡ Equal → (r ≡ Equal) × (s ≡ Equal)
 then_equal Less s e = cc
 then_equal Equal s e = (refl, e)
@@ -83,7 +83,7 @@ moment_equal m n e =
     let third = then_equal (nat_cmp (form_rank (moment_form m)) (form_rank (moment_form n))) _ second.1 in
     same_moment m n (exact_signed _ _ first.0) (exact_options _ _ second.0) (exact_unsigned _ _ third.0) (exact_bytes _ _ third.1)
 
--- what `==` answers, for callers
+-- what `==` says, for callers
 
 eq_by_cmp-iff : {K : Type 0} {R : K → K → Ordering} → IsTotalOrder R → CmpEqualImpliesEq R → (x y : K) (b : Bool) → b ≡ eq_by_cmp R x y →
     IsTrue b ↔ (x ≡ y)

@@ -34,14 +34,14 @@ moment_second (Floating stamp) = Some stamp.second
 moment_second (Utc stamp) = Some stamp.second
 moment_second (Zoned zone stamp) = Some stamp.second
 
--- the bytes of the zone's name, none where the moment is in no zone
+-- the bytes of the zone's name, none if the moment is in no zone
 abbrev pub moment_zone : Moment → List ℕ
 moment_zone (Date day) = []
 moment_zone (Floating stamp) = []
 moment_zone (Utc stamp) = []
 moment_zone (Zoned zone stamp) = zone.bytes
 
--- a local time in a zone, floating where there is none
+-- a local time in a zone, or floating if there is none
 abbrev pub local_moment : Option Name → Stamp → Moment
 local_moment None stamp = Floating stamp
 local_moment (Some zone) stamp = Zoned zone stamp

@@ -5,7 +5,7 @@ use Rattle.itip_moment.specs.declared.moment.Form.TheVariants.{Date}
 use Rattle.itip_moment.specs.declared.moment.Moment.{Moment}
 use Rattle.itip_moment.specs.Moment.{moment_form, moment_day, moment_second, moment_zone}
 
--- seconds from 1970-01-01T000000, where each day has 86,400
+-- seconds from 1970-01-01T000000, with 86,400 in each day
 abbrev pub seconds_at : ℤ → ℕ → ℤ
 seconds_at day second = (day *ℤ pos 86_400) +ℤ pos second
 
@@ -17,11 +17,11 @@ moved_by from days seconds = (from +ℤ (days *ℤ pos 86_400)) +ℤ seconds
 abbrev pub IsInYears : ℤ → Type 0
 IsInYears seconds = IsBetween (neg_ℤ (pos 62_167_219_200)) (pos 253_402_300_799) seconds
 
--- where a moment stands on its own clock; a date stands at its midnight
+-- where a moment is on its own clock; a date is at its midnight
 abbrev pub clock_seconds : Moment → ℤ
 clock_seconds m = seconds_at (moment_day m) (unwrap_or (moment_second m) 0)
 
--- the sum stays in the years 0000 to 9999, and a date moves by whole days alone
+-- the sum stays in the years 0000 to 9999, and a date moves only by whole days
 pub record CanShift (m : Moment) (days seconds : ℤ) : Type 0 where
   pub in_years : IsInYears (moved_by (clock_seconds m) days seconds)
   pub whole_days : moment_form m ≡ Date → seconds ≡ pos 0

@@ -10,7 +10,7 @@ use Rattle.itip_moment.specs.Written.{moment_text}
 abbrev pub IsDay : List ℕ → Day → Type 0
 IsDay text day = IsDateText text day.number
 
--- the zone stands before the text
+-- the zone comes before the text
 abbrev pub shown_moment : Moment → List ℕ
 shown_moment (Date day) = moment_text (Date day)
 shown_moment (Floating stamp) = moment_text (Floating stamp)

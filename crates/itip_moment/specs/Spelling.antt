@@ -7,7 +7,7 @@ use Rattle.itip_moment.specs.declared.moment.Moment.{Moment}
 use Rattle.itip_moment.specs.declared.moment.Moment.TheVariants.{Date, Floating, Utc, Zoned}
 use Rattle.itip_moment.specs.Digits.{date_digits, clock_digits}
 
--- the Gregorian calendar has this date, and the number is its day's from 1970-01-01
+-- the Gregorian calendar has this date, and the number is that of its day from 1970-01-01
 pub record IsDayOf (year month day_of_month : ℕ) (number : ℤ) : Type 0 where
   pub date : CalendarDate
   pub parts : IsYmd (pos year) (pos month) (pos day_of_month) date
@@ -40,7 +40,7 @@ pub record IsLocalText (text : List ℕ) (day : ℤ) (second : ℕ) : Type 0 whe
   pub date_is : IsDateText date day
   pub clock_is : IsClockText clock second
 
--- the same, and a last `Z`
+-- the same, and a final `Z`
 pub record IsUtcText (text : List ℕ) (day : ℤ) (second : ℕ) : Type 0 where
   pub local : List ℕ
   pub marked : text ≡ local ++ 90 ∷ []
@@ -49,8 +49,8 @@ pub record IsUtcText (text : List ℕ) (day : ℤ) (second : ℕ) : Type 0 where
 abbrev pub IsStampText : List ℕ → Stamp → Type 0
 IsStampText text stamp = IsUtcText text stamp.day stamp.second
 
--- The text is the moment, beside this TZID. The text decides on a date or UTC, whatever TZID says;
--- a local text is in the zone that TZID names, and floating where there is no TZID or an empty one.
+-- The text spells the moment, beside this TZID. A date or a time in UTC is that, whatever TZID says;
+-- a local time is in the zone that TZID names, and floating if there is no TZID or an empty one.
 abbrev pub MomentText : List ℕ → Option (List ℕ) → Moment → Type 0
 MomentText text tzid (Date day) = IsDateText text day.number
 MomentText text tzid (Floating stamp) = IsLocalText text stamp.day stamp.second × (unwrap_or tzid [] ≡ [])

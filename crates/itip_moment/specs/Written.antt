@@ -46,7 +46,7 @@ moment_text (Floating stamp) = local_text stamp.day stamp.second
 moment_text (Utc stamp) = stamp_text stamp
 moment_text (Zoned zone stamp) = local_text stamp.day stamp.second
 
--- the TZID that stands beside the text
+-- the TZID beside the text
 abbrev pub moment_tzid : Moment → Option (List ℕ)
 moment_tzid (Date day) = None
 moment_tzid (Floating stamp) = None

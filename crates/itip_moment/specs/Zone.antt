@@ -17,7 +17,7 @@ same_name a b e =
 abbrev pub name_code : Coded Name
 name_code = coded_via (coded_list coded_ℕ) (λ n. n.bytes) same_name
 
--- the bytes of a name, and none where there is no name
+-- the bytes of a name, and none if there is no name
 abbrev pub zone_text : Option Name → List ℕ
 zone_text None = []
 zone_text (Some name) = name.bytes

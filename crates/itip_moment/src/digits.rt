@@ -1,7 +1,7 @@
 ghost use Rattle.std.specs.Prelude.{◌≡◌, ◌<◌, ◌∷◌, [], IfSome, IfNone, ℕ};
 ghost use Rattle.itip_moment.specs.Digits.{two_digits};
 
-/// The number that two decimal digits write.
+/// The number that two decimal digits spell; `None` unless both are digits.
 pub(crate) fn two_digits(tens: u8, ones: u8) -> Option<u8>
     ensures bound { IfSome result (λ n. n < 100) }
     ensures found { IfSome result (λ n. tens ∷ ones ∷ [] ≡ two_digits n) }

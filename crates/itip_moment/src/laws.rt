@@ -10,14 +10,14 @@ ghost use Rattle.itip_moment.specs.Spelling.{IsDateText, IsStampText, MomentText
 ghost use Rattle.itip_moment.specs.Written.{date_text, stamp_text, moment_text, moment_tzid};
 ghost use Rattle.itip_moment.specs.Years.{IsDayNumber};
 
-/// What is written is the value's own text, beside its own TZID.
+/// What is written spells the value itself, beside its own TZID.
 pub fn written_texts_are_read_back()
     ensures date { (day : ℤ) → IsDayNumber day → IsDateText (date_text day) day }
     ensures stamp { (s : Stamp) → IsStampText (stamp_text s) s }
     ensures moment { (m : Moment) → MomentText (moment_text m) (moment_tzid m) m }
 {}
 
-/// Whatever answers as the readers promise gives back what was written.
+/// Any result that meets the contract of a reader gives back what was written.
 pub fn readers_give_back_what_was_written()
     ensures stamp { (r : Option Stamp) (s : Stamp) → IfSome r (IsStampText (stamp_text s))
         → IfNone r ((t : Stamp) → IsStampText (stamp_text s) t → ⊥) → r ≡ Some s }
@@ -34,7 +34,7 @@ pub fn texts_spell_one_value()
         → MomentText text tzid m → MomentText text tzid n → m ≡ n }
 {}
 
-/// The orders are total, and what they answer `Equal` for is one value.
+/// The orders are total, and values that compare as `Equal` are one value.
 pub fn orders_tell_values_apart()
     ensures stamps_total { IsTotalOrder stamp_cmp }
     ensures stamps { CmpEqualImpliesEq stamp_cmp }
@@ -42,7 +42,7 @@ pub fn orders_tell_values_apart()
     ensures moments { CmpEqualImpliesEq moment_cmp }
 {}
 
-/// A moment moved by days and seconds is one moment.
+/// Moving a moment by days and seconds has at most one result.
 pub fn sums_are_one_moment()
     ensures { (old : Moment) (days seconds : ℤ) (a b : Moment)
         → IsShifted old days seconds a → IsShifted old days seconds b → a ≡ b }

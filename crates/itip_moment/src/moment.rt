@@ -6,7 +6,7 @@ use crate::{Day, Stamp, ZoneName};
 use std::alloc::AllocError;
 use std::cmp::Ordering;
 
-/// The form of a moment, in the order of forms.
+/// The form of a moment. The variants are in the order of forms.
 #[derive(Clone, Copy, Debug, PartialEq, Eq)]
 pub enum Form {
     Date,
@@ -17,7 +17,7 @@ pub enum Form {
 
 /// A date, or a date-time that is floating, in UTC, or in a named zone (RFC 5545 3.3.4 and 3.3.5).
 ///
-/// Two moments are equal only with equal form, zone and value. Moments are ordered by the day; then by
+/// Two moments are equal only if their form, zone and value are. Moments are ordered by the day; then by
 /// the second of the day, a date before every second; then by the form; then by the zone's bytes.
 #[derive(Debug, Drop)]
 pub enum Moment {
@@ -54,7 +54,7 @@ impl Moment {
         }
     }
 
-    /// The second of the day, which a date doesn't have.
+    /// The second of the day; `None` for a date, which has none.
     pub fn second(&self) -> Option<u32>
         ensures { result ≡ moment_second self.now }
     {
@@ -64,7 +64,7 @@ impl Moment {
         }
     }
 
-    /// The name of the zone of a zoned moment; `None` of any other.
+    /// The name of the zone of a zoned moment; `None` for any other.
     pub fn tzid(&self) -> Option<&str>
         ensures { option_copied result ≡ moment_tzid self.now }
     {
@@ -84,7 +84,7 @@ impl Moment {
     }
 }
 
-/// A moment in no zone is cloned without any memory.
+/// A moment that is in no named zone is cloned without taking memory.
 impl Clone for Moment {
     ghost use Rattle.itip_moment.specs.Room.{IsInNoZone};
 

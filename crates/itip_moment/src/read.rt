@@ -11,8 +11,8 @@ use crate::{Day, Moment, NoMemory, Stamp, ZoneName};
 use jiff::civil::Date;
 use std::alloc::Global;
 
-/// The day that a date spells: exactly `YYYYMMDD` (RFC 5545 3.3.4), a date of the Gregorian calendar
-/// in the years 0000 to 9999. `None` of any other text.
+/// Reads a date: exactly `YYYYMMDD` (RFC 5545 3.3.4), a date of the Gregorian calendar in the years
+/// 0000 to 9999. Returns `None` for any other text.
 pub fn read_date(text: &str) -> Option<Day>
     ensures found { IfSome result (λ day. IsDateText text.now day.number) }
     ensures none { IfNone result ((day : ℤ) → IsDateText text.now day → ⊥) }
@@ -20,10 +20,9 @@ pub fn read_date(text: &str) -> Option<Day>
     date(text.as_bytes())
 }
 
-/// The stamp that a date-time in UTC spells: `YYYYMMDDTHHMMSSZ` (RFC 5545 3.3.5), `T` and `Z` in
-/// upper case.
+/// Reads a date-time in UTC: `YYYYMMDDTHHMMSSZ` (RFC 5545 3.3.5), with `T` and `Z` in upper case.
 ///
-/// Second 60 is read as 59. `None` of any other text.
+/// Second 60 is read as 59. Returns `None` for any other text.
 pub fn read_stamp(text: &str) -> Option<Stamp>
     ensures found { IfSome result (λ stamp. IsStampText text.now stamp) }
     ensures none { IfNone result ((stamp : Stamp) → IsStampText text.now stamp → ⊥) }
@@ -31,11 +30,11 @@ pub fn read_stamp(text: &str) -> Option<Stamp>
     utc(text.as_bytes())
 }
 
-/// The moment that a text spells beside a TZID: a date, or a date-time with or without a last `Z`.
+/// Reads the moment that a text spells beside a TZID: a date, or a date-time with or without a final `Z`.
 ///
-/// The text decides the form: TZID names the zone of a date-time without `Z` alone, which is floating
-/// where TZID is absent or empty. `None` of any other text. An error only when out of memory for the
-/// zone's name, which only a date-time without `Z` beside a TZID has.
+/// The text decides the form: only a date-time without `Z` is in the zone that TZID names, and it is
+/// floating if TZID is absent or empty. Returns `None` for any other text. Fails only when out of memory
+/// for the zone's name, which only a date-time without `Z` beside a TZID has.
 pub fn read_moment(
     alloc: Global,
     text: &str,
@@ -48,14 +47,14 @@ pub fn read_moment(
     ensures room { ¬ IsZonedText text.now (option_copied tzid.entry) → IsOk result }
 {
     let Some(stamp) = local(text.as_bytes()) else {
-        // A date and a time in UTC stand in no zone, whatever TZID says.
+        // A date and a time in UTC are in no zone, whatever TZID says.
         return read_moment_in(text, None);
     };
     let zone = ZoneName::new(alloc, tzid.unwrap_or(""))?;
     Ok(Some(local_moment(zone, stamp)))
 }
 
-/// A local time in a zone, floating where there is none.
+/// A local time in a zone, or floating if there is none.
 fn local_moment(zone: Option<ZoneName>, stamp: Stamp) -> Moment
     ensures { result ≡ local_moment zone stamp }
 {
@@ -65,10 +64,10 @@ fn local_moment(zone: Option<ZoneName>, stamp: Stamp) -> Moment
     }
 }
 
-/// The moment that a text spells beside the zone given, or beside none: as [`read_moment`], with the name made before.
+/// Reads the moment that a text spells beside the given zone, or beside none: like [`read_moment`], but with a name made before.
 ///
-/// A zoned moment shares the name, so that many in one zone hold it once. An error only of a local time in a zone, where the name
-/// can't be shared once more.
+/// A zoned moment shares the name, so many moments in one zone hold it only once. Fails only for a local time in a zone, if the
+/// name can't be shared once more.
 pub fn read_moment_in(text: &str, zone: Option<&ZoneName>) -> Result<Option<Moment>, NoMemory>
     ensures found { IfOk result (λ r. IfSome r (MomentText text.now (Some (zone_text (option_copied zone.entry))))) }
     ensures none { IfOk result (λ r. IfNone r (

@@ -15,7 +15,7 @@ const FIRST_SECOND: i128 = -62_167_219_200;
 
 const LAST_SECOND: i128 = 253_402_300_799;
 
-// The seconds of a day.
+// The number of seconds in a day.
 const DAY: i128 = 86_400;
 
 impl Moment {
@@ -23,11 +23,11 @@ impl Moment {
     ghost use Rattle.std.specs.Bool.{OnTrue, OnFalse};
     ghost use Rattle.itip_moment.specs.Shift.{CanShift, IsShifted};
 
-    /// Moves the moment by days and seconds, exactly, on its own clock, where each day has 86,400
+    /// Moves the moment by days and seconds, exactly, on its own clock, on which each day has 86,400
     /// seconds.
     ///
-    /// False, and the moment as before, where the result leaves the years 0000 to 9999, or where a date
-    /// would be moved by seconds other than 0.
+    /// Returns `false` and leaves the moment unchanged if the result would leave the years 0000 to 9999,
+    /// or if a date would be moved by seconds other than 0.
     pub fn shift(&mut self, days: i64, seconds: i64) -> bool
         ensures done { IsTrue result ↔ CanShift self.old days seconds }
         ensures moved { OnTrue result (IsShifted self.old days seconds self.new) }

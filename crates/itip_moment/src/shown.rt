@@ -1,4 +1,4 @@
-//! Dates, stamps and moments as they are shown, and days and stamps read of a text.
+//! Days, stamps, zone names and moments as they are shown, and days and stamps read from a text.
 ghost use Rattle.std.specs.Prelude.{Some};
 ghost use Rattle.std.specs.Fmt.{DisplaysOnOk};
 ghost use Rattle.std.specs.Net.Grammar.{Parses};
@@ -12,7 +12,7 @@ use std::error::Error;
 use std::fmt;
 use std::str::FromStr;
 
-/// A text is not of the form that was asked for.
+/// A text doesn't have the form that was asked for.
 #[derive(Clone, Copy, PartialEq, Eq, Debug)]
 pub struct BadText;
 
@@ -51,7 +51,7 @@ impl fmt::Display for ZoneName {
     }
 }
 
-/// The text of the moment, behind `TZID=` and the name of its zone and `:` where it has one.
+/// The text of the moment; in a named zone it is preceded by `TZID=`, the name of the zone and `:`.
 impl fmt::Display for Moment {
     ghost output = { λ moment. Some (shown_moment moment) };
 
@@ -68,7 +68,7 @@ impl fmt::Display for Moment {
     }
 }
 
-/// A stamp that is shown without the mark of UTC.
+/// A stamp that is shown without the `Z` of UTC.
 #[derive(Clone, Copy)]
 struct Local {
     stamp: Stamp,
@@ -82,7 +82,7 @@ impl fmt::Display for Local {
     }
 }
 
-/// Writes the octets of a text.
+/// Writes the bytes of a text.
 fn show<W: fmt::Write>(bytes: &[u8], f: &mut fmt::Formatter<W>) -> fmt::Result
     ensures { DisplaysOnOk W.Write.write_str_gives f.old result (Some bytes.now) f.new }
 {

@@ -8,7 +8,7 @@ use crate::{Day, Moment, NoMemory, Stamp};
 
 /// Appends the text of a stamp, `YYYYMMDDTHHMMSSZ` (RFC 5545 3.3.5).
 ///
-/// On an error the vector is as before: it is asked for memory only where it has no room for the text.
+/// On an error (out of memory) the contents of the vector are unchanged. It takes memory only if the vector has no room for the text.
 pub fn write_stamp(stamp: &Stamp, out: &mut Vec<u8>) -> Result<(), NoMemory>
     ensures ok { OnOk result (out.new.items ≡ out.old.items ++ stamp_text stamp.now) }
     ensures err { OnErr result (out.new.items ≡ out.old.items) }
@@ -20,7 +20,7 @@ pub fn write_stamp(stamp: &Stamp, out: &mut Vec<u8>) -> Result<(), NoMemory>
 
 /// Appends the value text of a moment (RFC 5545 3.3.4 and 3.3.5), without its TZID.
 ///
-/// On an error the vector is as before: it is asked for memory only where it has no room for the text.
+/// On an error (out of memory) the contents of the vector are unchanged. It takes memory only if the vector has no room for the text.
 pub fn write_moment(moment: &Moment, out: &mut Vec<u8>) -> Result<(), NoMemory>
     ensures ok { OnOk result (out.new.items ≡ out.old.items ++ moment_text moment.now) }
     ensures err { OnErr result (out.new.items ≡ out.old.items) }

@@ -15,7 +15,7 @@ use std::sync::ArcStr;
 
 /// The name of a time zone, as TZID gives it (RFC 5545 3.2.19): a text that isn't empty.
 ///
-/// Names are ordered by their bytes. The text is shared: a clone is a count more, and takes no memory.
+/// Names are ordered by their bytes. The text is shared: a clone is one more reference, and takes no memory.
 #[derive(Drop)]
 pub struct ZoneName {
     text: ArcStr,
@@ -34,9 +34,9 @@ impl Model for ZoneName {
 }
 
 impl ZoneName {
-    /// The name with this text, or `None` where the text is empty, which takes no memory.
+    /// The name with this text, or `None` if the text is empty, which takes no memory.
     ///
-    /// An error only when out of memory.
+    /// Fails only when out of memory.
     pub fn new(alloc: Global, text: &str) -> Result<Option<ZoneName>, AllocError>
         ensures ok { IfOk result (λ name.
             MatchOption name (text.now ≡ []) (λ z. z.bytes ≡ text.now)) }

@@ -1,11 +1,11 @@
-//! Why a text gives no value, or a value no text.
+//! Why a text is no value, or a value has no text.
 
 use std::alloc::{AllocError, AllocFailed};
 
-/// Why a text gives no value, or a value no text.
+/// Why a text is no value, or a value has no text.
 #[derive(Clone, Copy, Debug, Drop)]
 pub enum NotationError {
-    /// Memory was refused.
+    /// An allocation failed.
     NoMemory,
     /// The text is no value of the type.
     NoValue,

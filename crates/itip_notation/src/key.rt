@@ -6,10 +6,10 @@ use std::alloc::Global;
 
 /// Keys that have a text.
 pub trait Key: Exact {
-    /// The key that a text is.
+    /// The key that a text spells. Fails with [`NotationError::NoValue`] if it spells none.
     fn read_key(text: &str) -> Result<Self, NotationError>;
 
-    /// The text of a key.
+    /// The text of a key. Fails with [`NotationError::NoMemory`] if an allocation fails.
     fn write_key(&self, alloc: Global) -> Result<String, NotationError>;
 }
 
@@ -24,7 +24,7 @@ impl Key for u32 {
     }
 }
 
-/// Two parts, as `3.1`, and `-.1` where the first is missing.
+/// Two parts, as `3.1`, or `-.1` if the first is missing.
 impl Key for (Option<u64>, u8) {
     fn read_key(text: &str) -> Result<(Option<u64>, u8), NotationError> {
         let (first, second) = text.split_once('.').ok_or(NotationError::NoValue)?;

@@ -8,10 +8,11 @@ use std::alloc::Global;
 
 /// Values that have a text.
 pub trait Notation: Join {
-    /// The value that a text is.
+    /// The value that a text spells. Fails with [`NotationError::NoValue`] if it spells none, and with [`NotationError::NoMemory`] if an
+    /// allocation fails.
     fn read(alloc: Global, text: &str) -> Result<Self, NotationError>;
 
-    /// The text of a value.
+    /// The text of a value. Fails with [`NotationError::NoMemory`] if an allocation fails.
     fn write(&self, alloc: Global) -> Result<String, NotationError>;
 }
 
@@ -42,7 +43,7 @@ impl Notation for Number {
     }
 }
 
-/// `-` where nothing is known.
+/// `-` if nothing is known, else the value.
 impl<T: Notation> Notation for Lift<T> {
     fn read(alloc: Global, text: &str) -> Result<Lift<T>, NotationError> {
         if text == "-" {
@@ -59,7 +60,7 @@ impl<T: Notation> Notation for Lift<T> {
     }
 }
 
-/// The two with a stroke between them, as `2/1`.
+/// The two values with a slash between them, as `2/1`.
 impl<A: Notation, B: Notation> Notation for Both<A, B> {
     fn read(alloc: Global, text: &str) -> Result<Both<A, B>, NotationError> {
         let (first, second) = text.split_once('/').ok_or(NotationError::NoValue)?;
@@ -91,7 +92,7 @@ impl<M: Notation + UnderGuard<Limit>> Notation for Guarded<Limit, M> {
     }
 }
 
-/// The entries, joined in one after another, as `1=2,2=5`.
+/// The entries, as `1=2,2=5`. Those that are read are joined one after another.
 impl<K: Key> Notation for Keyed<K, Number> {
     fn read(alloc: Global, text: &str) -> Result<Keyed<K, Number>, NotationError> {
         let mut map = Keyed::empty(alloc);
@@ -125,7 +126,7 @@ fn one<K: Key>(alloc: Global, entry: &str) -> Result<Keyed<K, Number>, NotationE
     Ok(Keyed::of_one(alloc, K::read_key(key)?, value)?)
 }
 
-/// Adds an entry to a text, after a stop where another entry is before it.
+/// Appends an entry to a text, after `stop` unless it is the first.
 fn add(
     text: &mut String,
     stop: &str,

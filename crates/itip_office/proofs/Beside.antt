@@ -12,7 +12,7 @@ use Rattle.itip_office.specs.Ended.{all_heard, IsSomeDesk}
 use Rattle.itip_office.specs.Exchanged.{AreNoLoops, GivesDelta, TakesAll}
 use Rattle.itip_office.proofs.Sharing.{History, AreDesksOf, AreDeltasOf, AreLeft, IsNext, left_some, left_next, shared}
 
--- what holds at each place of two lists holds of the lists
+-- what holds at each place of two lists holds for the lists
 pub zip_at : {A B : Type 0} (R : A → B → Type 0) (xs : List A) (ys : List B) → length ys ≡ length xs →
     ((i : ℕ) (a : A) (b : B) → i < length xs → R (slice_index_or xs i a) (slice_index_or ys i b)) → AllZip R xs ys
 zip_at R [] [] same at = tt
@@ -23,7 +23,7 @@ zip_at R (x ∷ xs) (y ∷ ys) same at = (
   zip_at R xs ys (omega (arith, same)) (λ i a b low. at (suc i) a b (omega (arith, low))),
 )
 
--- of values that are all there
+-- if no delta is an error, they are the deltas of the desks
 deltas_ok : (desks : List Shown) (deltas : List (List Item)) → AllZip GivesDelta desks (map Ok deltas) → AreDeltasOf desks deltas
 deltas_ok [] [] are = tt
 deltas_ok [] (b ∷ deltas) are = absurd are
@@ -52,7 +52,7 @@ module _ (hs : List History) (desks : List Shown) (deltas : List (List Item)) (a
         All-cons P r ended (shared hs desks deltas are gives next.history next.there r.kept (took.0 next.history 0 next.is).kept)
         (each_kept left ended next.rest took.1)
 
-    -- the first so many of the desks
+    -- the first `n` of the desks
     pub all_kept_alike : (n : ℕ) (left : List Shown) (all : List (Result Shown OfficeError)) (ended : List Shown) → left ≡ take n desks →
         length all ≡ length left
         → ((i : ℕ) (d : Shown) (r : Result Shown OfficeError) → i < length left
@@ -62,7 +62,7 @@ module _ (hs : List History) (desks : List Shown) (deltas : List (List Item)) (a
         each_kept left ended (subst (AreLeft hs) (sym first) (left_some hs desks n are))
         (subst (λ (l : List (Result Shown OfficeError)). AllZip (TakesAll deltas) left l) ok (zip_at (TakesAll deltas) left all count each))
 
--- and is that of what it heard and of all deltas
+-- each of them is the desk of what it heard followed by all deltas
 module _ (hs : List History) (deltas : List (List Item)) where
   each_some : (left ended : List Shown) → AreLeft hs left → AllZip (TakesAll deltas) left (map Ok ended) → All IsSomeDesk ended
   each_some [] [] l took = All-nil IsSomeDesk
@@ -73,7 +73,7 @@ module _ (hs : List History) (deltas : List (List Item)) where
       All-cons IsSomeDesk r ended (record { batches = next.history ++ deltas; is = took.0 next.history 0 next.is })
       (each_some left ended next.rest took.1)
 
-  -- the first so many of some desks
+  -- the first `n` of some desks
   pub all_some : (desks : List Shown) → AreDesksOf hs desks → (n : ℕ) (left : List Shown) (all : List (Result Shown OfficeError))
       (ended : List Shown) → left ≡ take n desks → length all ≡ length left
       → ((i : ℕ) (d : Shown) (r : Result Shown OfficeError) → i < length left
@@ -86,7 +86,7 @@ pub as_many : {A : Type 0} (n : ℕ) (all : List (Result A OfficeError)) (values
     length values ≡ n
 as_many n all values count ok = sym (length-map values Ok) ∙ (sym (ap length ok) ∙ count)
 
--- an error of what was made side by side is of no loop
+-- an error of what was made side by side is not one of the loops
 gives_error : (d : Shown) (r : Result (List Item) OfficeError) → GivesDelta d r → IfErr r AreNoLoops
 gives_error d (Ok delta) gives = tt
 gives_error d (Err error) gives = gives
@@ -115,7 +115,7 @@ pub take_errors : (deltas : List (List Item)) (desks : List Shown) (all : List (
 take_errors deltas desks all count each =
     zip_errors (TakesAll deltas) (takes_error deltas) desks all (zip_at (TakesAll deltas) desks all count each)
 
--- the error at the head of what is left is among all
+-- the first error of what is left is among all errors
 pub error_among : {A : Type 0} (done left all : List (Result A OfficeError)) (error : OfficeError) → done ++ Err error ∷ left ≡ all →
     All (λ (r : Result A OfficeError). IfErr r AreNoLoops) all → AreNoLoops error
 error_among [] left all error whole are =

@@ -1,4 +1,4 @@
--- The lists of desks, one more after those before.
+-- The lists of desks, one after another.
 use Rattle.std.proofs.Common.{◌≡◌, ℕ, ◌+◌, Bool, true, false, ◌||◌, List, [], ◌∷◌, ◌++◌, length, refl, sym, ap, subst, ◌∙◌, append_assoc}
 use Rattle.std.proofs.Common.{arith, inl, inr, Option, Some, None}
 use Rattle.std.specs.Prelude.{not, codes, is_some}
@@ -50,7 +50,7 @@ module _ (window : Window) (number : ℕ) (desk : Shown) (asked : RowsByUid) (ar
 
 -- ---- one list after another
 
--- a list behind more
+-- a list after other text
 listed_behind : (window : Window) (number : ℕ) (desk : Shown) (front old new : List ℕ) (over : Bool) →
     ListsDesk window number desk old new over → ListsDesk window number desk (front ++ old) (front ++ new) over
 listed_behind window number desk front old _ _ (lists_rows rows new are few is) =
@@ -108,7 +108,7 @@ starts window refused old kept refusal kept_is refusal_is = record {
 
 module _ (window : Window) (refused : List (ℕ × Refusal)) (desks : List Shown) (old new : Option (List ℕ)) (kept : List ℕ) (refusal : Bool)
     (listing : IsListing window refused desks old new kept refusal) where
-  -- a front of what is kept was written
+  -- a prefix of what is kept was written
   pub front_listed : (all left : List Shown) (newer : Option (List ℕ)) → all ≡ desks ++ left → AppendsFront new newer kept →
       WritesEndedFront window old newer refused all
   front_listed all left newer whole front = record {
@@ -144,7 +144,7 @@ module _ (window : Window) (refused : List (ℕ × Refusal)) (desks : List Shown
         refusal_is = ap (λ (b : Bool). b || over) listing.refusal_is ∙ or_assoc (not (is_none refused)) listing.over over;
       }
 
-  -- a front of what is kept was written, and the rest is kept
+  -- a prefix of what is kept was written, and the rest is kept
   pub moved_out : (newer : Option (List ℕ)) (rest : List ℕ) → MovesOut new newer kept rest →
       IsListing window refused desks old newer rest refusal
   moved_out newer rest moves =
@@ -183,7 +183,7 @@ module _ (window : Window) (refused : List (ℕ × Refusal)) (desks : List Shown
       (one_listed window refused desks old new kept refusal listing desk number more writes.more over at more_is writes.lists)
       newer rest writes.moved)
 
-  -- a front was written of what is kept, or of one more list
+  -- a prefix was written of what is kept, or of one more list
   pub front_of_list : (all left others : List Shown) → all ≡ desks ++ left → all ≡ more ++ others →
       WritesListFront window number desk new newer kept → WritesEndedFront window old newer refused all
   front_of_list all left others whole whole_more (inl front) =

@@ -1,4 +1,4 @@
--- One more command of a script, which is numbered by how many there were before it.
+-- One more command of a script, numbered by how many came before it.
 use Rattle.std.proofs.Common.{◌≡◌, ℕ, ◌+◌, List, [], ◌∷◌, ◌++◌, length, refl, sym, ap, ◌∙◌, append_assoc, arith, Option, Some, None}
 use Rattle.std.proofs.lemmas.List.{length-append, append-nil}
 use Rattle.itip_view.specs.declared.window.Window.{Window}
@@ -8,7 +8,7 @@ use Rattle.itip_office.specs.declared.job.Job.{Job}
 use Rattle.itip_office.specs.declared.job.Work.{Work}
 use Rattle.itip_office.specs.Scripts.{work_of, onto_jobs, onto_others, jobs_from, others_from}
 
--- the jobs and the others so far, which the errands that are left complete
+-- the jobs and the others so far, which those of the remaining errands complete
 pub record AreSoFar (window : Window) (errands left : List Errand) (jobs : List Job) (others : List (ℕ × Refusal)) : Type 0 where
   pub jobs_are : jobs ++ jobs_from window (length jobs + length others) left ≡ jobs_from window 0 errands
   pub others_are : others ++ others_from window (length jobs + length others) left ≡ others_from window 0 errands

@@ -25,7 +25,7 @@ use Rattle.itip_office.specs.Answers.{Answer, IsOutcome, IsTook}
 use Rattle.itip_office.specs.Taken.{ReadsWork, IsTaken}
 use Rattle.itip_office.specs.Ended.{HasEnded, AreReplies}
 
--- the batches of one text are one
+-- the batches of one text are the same
 one_batch : (bytes : List ℕ) (batch other : List Item) → IsBatchOf bytes batch → IsBatchOf bytes other → batch ≡ other
 one_batch bytes batch other is of =
     let same : is.items ≡ of.items = one_message bytes is.items of.items is.reads of.reads in
@@ -55,7 +55,7 @@ one_outcome desks (Text desk bytes) outcome other text is of = one_text desks de
 one_outcome desks (Carry from to) outcome other text is of = absurd text
 one_outcome desks (Look desk window) outcome other text is of = absurd text
 
--- of a text alone there is something to read
+-- only a text can be read
 reads_text : (work : Work) (items : List Item) → ReadsWork work items → IsText work
 reads_text (Text desk bytes) items reads = tt
 reads_text (Carry from to) items reads = absurd reads
@@ -85,7 +85,7 @@ job_among (b ∷ answers) a h = elim (cons_cases b answers a h) [
   | inr later ↦ cons_later b.0 (map job_of answers) a.0 (job_among answers a later)
 ]
 
--- answers whose numbers rise are told apart by them
+-- answers with increasing numbers are told apart by their numbers
 abbrev number_of : Answer → ℕ
 number_of a = a.0.number
 
@@ -168,7 +168,7 @@ module _ (desks : ℕ) (jobs others : List Job) (replies answered : List (ℕ ×
       same_texts job outcome other text (told jobs one.answers replies one.are_replies job outcome in_jobs is)
       (told others two.answers answered two.are_replies job other (Contains-permutation jobs others job order in_jobs) of)
 
-  -- what was taken in the one was taken in the other
+  -- what was taken in one office was taken in the other
   taken_too : IsPermutation jobs others → (item : Item) → IsTaken one.answers item → IsTaken two.answers item
   taken_too order item taken =
       let job = taken.answer.0 in

@@ -53,7 +53,7 @@ has_kept pair desk IsSeen texts ended old new answers fresh grew shown = record 
   of_pair = of_pair pair desk IsSeen old new answers fresh.of_pair shown;
 }
 
--- what the keeper at a place has published all of
+-- what was seen is a beginning of what the keeper at a place has published
 pub beginning_at : {X : Type 0} (f : X → Publication) (xs : List X) (desk : ℕ) (x : X) → desk < length xs → x ≡ get_or xs desk x →
     (seen batches : List (List Item)) → (f x).desk ≡ desk
     → (f x).batches ≡ Some batches → IsPrefix seen batches → IsBeginning (map f xs) desk seen
@@ -66,7 +66,7 @@ beginning_at f xs desk x low at seen batches of_desk are begins = record {
   begins = begins;
 }
 
--- of keepers, each with the number of its desk, its answers and its running desk
+-- keepers, each with the number of its desk, its answers and its running desk
 module _ {X : Type 0} (number : X → ℕ) (answers : X → List Answer) (shown : X → Option Keeper) where
   abbrev pub publications : List X → List Publication
   publications kept = map (λ (k : X). publication_of (number k) (answers k) (shown k)) kept
@@ -80,7 +80,7 @@ module _ {X : Type 0} (number : X → ℕ) (answers : X → List Answer) (shown 
       subst (λ (k : X). IsOfPair (pair (number k)) (shown k)) (sym at) (all place one low) in
       subst (λ (o : Option Keeper). IsOfPair (pair (number one)) o) is own ∙ ap pair same
 
-  -- what it has published all of
+  -- what was seen is a beginning of what the one at a place has published
   pub begins_at_place : (kept : List X) (place : ℕ) (one : X) (keeper : Keeper) (desk : ℕ) (seen : List (List Item)) →
       place < length kept → one ≡ get_or kept place one → place ≡ desk → number one ≡ desk → shown one ≡ Some keeper
       → IsPrefix seen (published keeper) → IsBeginning (publications kept) desk seen
@@ -89,7 +89,7 @@ module _ {X : Type 0} (number : X → ℕ) (answers : X → List Answer) (shown 
       (beginning_at (λ (k : X). publication_of (number k) (answers k) (shown k)) kept place one low at seen (published keeper)
       (same ∙ sym here) (ap shown_of is) begins)
 
--- what sources have was seen, where each is a beginning of what was published
+-- what one of the sources has is a beginning of what was published, if each is
 seen_in : (ps : List Publication) (sources : List Source) → All (λ (s : Source). IsBeginning ps s.0 s.1) sources → (desk : ℕ)
     (seen : List (List Item)) → IsOneOf sources desk seen → IsBeginning ps desk seen
 seen_in ps sources all desk seen h = All-contains (λ (s : Source). IsBeginning ps s.0 s.1) sources (desk, seen) all h
@@ -107,7 +107,7 @@ are_shown desks alone looked carried ps all_looked all_carried answered each = r
       (λ p are. published_wider (IsOneOf carried) (IsBeginning ps) (seen_in ps carried all_carried) p.desk p.answers p.batches are) ps each;
 }
 
--- of all that threads returned, where what was seen is a beginning of what was published
+-- all that threads returned, if what was seen is a beginning of what was published
 module _ {X : Type 0} (number : X → ℕ) (answers : X → List Answer) (texts : X → Shown) (shown : X → Option Keeper) (pair : ℕ → Option Book)
   where
     pub all_shown : (desks : ℕ) (alone : List Answer) (looked carried : List Source) (kept : List X) →
@@ -123,13 +123,13 @@ module _ {X : Type 0} (number : X → ℕ) (answers : X → List Answer) (texts 
         (All-weaker (λ (k : X). HasKept (pair (number k)) (IsOneOf carried) (number k) (answers k) (texts k) (shown k))
         (λ (k : X). ArePublished (number k) (IsOneOf carried) (answers k) (shown_of (shown k))) (λ k is. is.published) kept has))
 
--- three facts of what is there
+-- what follows from three facts about a value
 pub ok_from : {T E : Type 0} (r : Result T E) (A B C D : T → Type 0) → ((x : T) → A x → B x → C x → D x) → IfOk r A → IfOk r B → IfOk r C →
     IfOk r D
 ok_from (Ok x) A B C D f a b c = f x a b c
 ok_from (Err e) A B C D f a b c = tt
 
--- what keepers published, for so many desks
+-- what keepers published, for `desks` desks
 module _ (desks : ℕ) (ps : List Publication) where
   each_of : (rest : List Publication) → All (λ (p : Publication). ArePublished p.desk (IsBeginning ps) p.answers p.batches) rest
       → All (λ (p : Publication). All (IsFor desks p.desk) p.answers) rest → All (IsPublication ps) rest

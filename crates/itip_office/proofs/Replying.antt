@@ -1,4 +1,4 @@
--- Answers beside the jobs that they are of.
+-- Answers side by side with their jobs.
 use Rattle.std.proofs.Common.{◌≡◌, ℕ, ◌+◌, ◌<◌, List, [], ◌∷◌, ◌++◌, length, map, take, get_or, Bool, true, false, nat_lt, refl, sym, ap}
 use Rattle.std.proofs.Common.{subst, ◌∙◌, arith, IsTrue}
 use Rattle.std.specs.List.{IsAllAdjacentAnswer}

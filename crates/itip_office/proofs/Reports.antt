@@ -1,4 +1,4 @@
--- What keepers answered, and what that tells of all answers.
+-- What keepers answered, and what follows for all answers.
 use Rattle.std.proofs.Common.{◌≡◌, ℕ, List, [], ◌∷◌, ◌++◌, All, inl, inr, sym, ap, subst, ◌∙◌, append-nil}
 use Rattle.std.proofs.lemmas.List.Concat.{flat_map-append}
 use Rattle.std.proofs.lemmas.List.Elements.{All-nil, All-cons, All-head, All-tail, All-append, All-weaker, All-contains}
@@ -19,7 +19,7 @@ use Rattle.itip_office.specs.Ended.{Tells, AreGathered, all_heard}
 use Rattle.itip_office.proofs.Sharing.{History, zip_push}
 use Rattle.itip_office.proofs.Taking.{taken_both}
 
--- what is answered alone takes no text
+-- a job that is answered alone takes no text
 alone_took : (desks : ℕ) (work : Work) (outcome : Outcome) → AnswersAlone desks work outcome → IsTook outcome → ⊥
 alone_took desks (Text desk bytes) (Took at items) (inl a) took = let e : Took at items ≡ Refused (NoDesk desk) = a.1 in cc
 alone_took desks (Text desk bytes) (Took at items) (inr a) took = let e = (a.1).2 in cc
@@ -42,7 +42,7 @@ tells_none desks alone all = record {
   );
 }
 
--- that a job is for a desk, of so many
+-- a job is for a desk, and the desks that it names are there
 abbrev pub IsFor : ℕ → ℕ → Answer → Type 0
 IsFor desks desk a = (desk_of a.0.work ≡ desk) × AreThere desks a.0.work
 

@@ -1,4 +1,4 @@
--- What was seen stays so where more was seen.
+-- What was seen stays seen when more is seen.
 use Rattle.std.proofs.Common.{◌≡◌, ℕ, List, [], ◌∷◌, ◌++◌, All, inl, inr, sym, subst, Option, Some, None}
 use Rattle.std.specs.List.{Contains, AllZip}
 use Rattle.std.proofs.lemmas.List.Elements.{All-append, All-weaker, Contains-append_left, Contains-append_right}

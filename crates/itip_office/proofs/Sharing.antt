@@ -1,4 +1,4 @@
--- Desks that each take what the others keep, as what is kept of all that they heard.
+-- Desks that each take what the others keep: they keep what is kept of all that they heard.
 use Rattle.std.proofs.Common.{◌≡◌, ℕ, ◌+◌, ◌<◌, List, [], ◌∷◌, ◌++◌, length, take, get_or, All, zero, suc, arith, ◌↔◌, inl, inr, refl, sym}
 use Rattle.std.proofs.Common.{ap, subst, ◌∙◌, append_assoc, append-nil}
 use Rattle.std.specs.List.{Contains, AllZip}
@@ -37,7 +37,7 @@ zip_length R [] (b ∷ ys) are = absurd are
 zip_length R (a ∷ xs) [] are = absurd are
 zip_length R (a ∷ xs) (b ∷ ys) are = ap suc (zip_length R xs ys are.1)
 
--- one more delta that is taken
+-- a desk takes these batches, one after another
 abbrev pub Carries : List (List Item) → Shown → Shown → Type 0
 Carries batches old new = (steps : History) (start : ℕ) → IsDeskOf steps start old → IsDeskOf (steps ++ batches) start new
 
@@ -118,7 +118,7 @@ pub record AreLeft (hs : List History) (desks : List Shown) : Type 0 where
   pub are : AreDesksOf left desks
   pub within : (h : History) → Contains left h → Contains hs h
 
--- the first so many desks
+-- the first `n` desks
 pub left_some : (hs : List History) (desks : List Shown) (n : ℕ) → AreDesksOf hs desks → AreLeft hs (take n desks)
 left_some hs desks zero are = record { left = []; are = tt; within = λ h there. absurd (none_in h there) }
 left_some [] [] (suc n) are = record { left = []; are = tt; within = λ h there. there }
@@ -153,7 +153,6 @@ left_next hs d desks l = by l.left l.are l.within
       rest = record { left = left; are = are.1; within = λ x there. within x (cons_later h left x there) };
     }
 
--- a desk that is alone keeps what is kept of all that was heard
 -- desks that each heard a history
 pub some_desks : (hs : List History) (desks : List Shown) → AreDesksOf hs desks → All IsSomeDesk desks
 some_desks [] [] are = All-nil IsSomeDesk
@@ -161,6 +160,7 @@ some_desks [] (d ∷ desks) are = absurd are
 some_desks (h ∷ hs) [] are = absurd are
 some_desks (h ∷ hs) (d ∷ desks) are = All-cons IsSomeDesk d desks (record { batches = h; is = are.0 }) (some_desks hs desks are.1)
 
+-- a single desk keeps what is kept of all that was heard
 pub alone_kept : (hs : List History) (desks : List Shown) → length desks < 2 → AreDesksOf hs desks →
     All (λ (d : Shown). AreKept d.kept (all_heard hs)) desks
 alone_kept [] [] few are = All-nil (λ (d : Shown). AreKept d.kept (all_heard []))

@@ -1,4 +1,4 @@
--- Desks that were just started, in the order of their numbers.
+-- Desks that have just been started, in the order of their numbers.
 use Rattle.std.proofs.Common.{◌≡◌, ℕ, suc, ◌+◌, List, [], ◌∷◌, ◌++◌, length, map, All, refl, sym, ap, subst, ◌∙◌, arith}
 use Rattle.std.proofs.Common.{Option, Some, None}
 use Rattle.std.proofs.lemmas.List.Elements.{All-nil, All-cons, All-head, All-tail, All-same, All-weaker}
@@ -28,7 +28,7 @@ unread_started texts passes empty none pair = record {
   passes_are = All-same (λ (p : Pass). pass_pair p ≡ pair) passes [] none (All-nil (λ (p : Pass). pass_pair p ≡ pair));
 }
 
--- what is so of every pair is so of the pair of each
+-- what holds for every pair holds for the pair of each
 pub of_any_pair : {X : Type 0} (Has : Option Book → X → Type 0) (pair : X → Option Book) (xs : List X) →
     All (λ (x : X). (p : Option Book) → Has p x) xs → All (λ (x : X). Has (pair x) x) xs
 of_any_pair {X} Has pair xs all =

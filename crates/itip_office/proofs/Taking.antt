@@ -123,7 +123,7 @@ module _ (desk : ℕ) (batch : List Item) (a : Answer) where
     λ taken. absurd (not (subst (λ (b : Answer). IsTook b.1) (sym (is_first taken.answer taken.among)) taken.took)),
   )
 
--- one more batch behind those of a job and of the others
+-- one more batch after those of a job and of the others
 then_more : (P Q : List (List Item) → Type 0) (batch : List Item) → ((batches : List (List Item)) → P batches → Q (batches ++ batch ∷ [])) →
     (work : Work) (batches : List (List Item)) → TextThen work P batches
     → TextThen work Q (batches ++ batch ∷ [])

@@ -1,4 +1,4 @@
--- Whether a batch is that of a text can be told, so where it is merely said to be it is.
+-- Whether a batch is that of a text is decidable, so it is one if it is merely said to be.
 use Rattle.std.proofs.Common.{ℕ, List, inl, inr, subst}
 use Rattle.std.proofs.Math.Logic.{∥∥₁_elim}
 use Rattle.itip_message.specs.Message.{ReadsMessage}

@@ -1,4 +1,4 @@
--- The outcome of a job in an office of so many desks (our own rule).
+-- The outcome of a job in an office with a number of desks (our own rule).
 use Rattle.std.specs.Prelude.{◌≡◌, ◌≤◌, ◌<◌, ◌⊎◌, ℕ, List, length, Option, Some, None}
 use Rattle.itip_message.specs.Message.{RefusesMessage}
 use Rattle.itip_message.specs.declared.error.MessageRefusal.{MessageRefusal}
@@ -19,7 +19,7 @@ use Rattle.itip_office.specs.Texts.{IsBatchOf, desk_of, AreThere}
 abbrev pub Answer : Type 0
 Answer = Job × Outcome
 
--- What a look at a desk that is there brings: the list of some items in the window, or that these have too many rows there.
+-- The outcome of a look at a desk that is there: the list of some items in the window, or the refusal that these have too many rows.
 abbrev pub IsLooked : Window → Outcome → Type 0
 IsLooked window (Took desk items) = ⊥
 IsLooked window (Carried from to items) = ⊥
@@ -40,7 +40,7 @@ IsTook (Looked text) = ⊥
 IsTook (Refused refusal) = ⊥
 
 -- The outcome of a job that nothing is merged for. It names the first desk that isn't there; a text for a desk that is there is refused for
--- the first cause why its octets are no message.
+-- the first cause why its bytes are no message.
 abbrev pub AnswersAlone : ℕ → Work → Outcome → Type 0
 AnswersAlone desks (Text desk bytes) outcome =
     ((desks ≤ desk) × (outcome ≡ Refused (NoDesk desk)))
@@ -50,13 +50,13 @@ AnswersAlone desks (Carry from to) outcome =
 AnswersAlone desks (Look desk window) outcome =
     ((desks ≤ desk) × (outcome ≡ Refused (NoDesk desk))) ⊎ ((desk < desks) × IsLooked window outcome)
 
--- The outcome of a job whose batch a desk merged: it has as many items as the batch.
+-- The outcome of a job whose batch a desk merged: it has the number of items of the batch.
 abbrev pub AnswersMerged : ℕ → List Item → Work → Outcome → Type 0
 AnswersMerged desk batch (Text at bytes) outcome = IsBatchOf bytes batch × (outcome ≡ Took desk (length batch))
 AnswersMerged desk batch (Carry from to) outcome = outcome ≡ Carried from desk (length batch)
 AnswersMerged desk batch (Look at window) outcome = ⊥
 
--- The outcome of a job in an office: it was answered alone, or merged by its own desk, and then the desks that it names are there.
+-- The outcome of a job in an office: the job was answered alone, or merged by its own desk, and then the desks that it names are there.
 abbrev pub IsOutcome : ℕ → Work → Outcome → Type 0
 IsOutcome desks work outcome =
     AnswersAlone desks work outcome ⊎ (AreThere desks work × ((batch : List Item) × AnswersMerged (desk_of work) batch work outcome))

@@ -12,28 +12,28 @@ use Rattle.itip_office.specs.Answers.{Answer, IsOutcome}
 use Rattle.itip_office.specs.Taken.{AreTaken}
 use Rattle.itip_office.specs.Published.{HasShown}
 
--- everything that desks heard, of which each heard a list of batches
+-- everything heard by some desks, each of which heard a list of batches
 abbrev pub all_heard : List (List (List Item)) → List Item
 all_heard histories = flat_map heard histories
 
--- The outcomes are as they should be, and the set has the items of the texts that were taken, and no others.
+-- Each outcome is one of its job, and the set has the items of the texts that were taken, and no others.
 pub record Tells (desks : ℕ) (answers : List Answer) (set : List Item) : Type 0 where
   pub each : All (λ (a : Answer). IsOutcome desks a.0.work a.1) answers
   pub taken : AreTaken answers set
 
--- These are the answers of all threads, and the desks of texts in their order, which heard what was taken.
+-- These are the answers of all threads, and the desks of texts, which together heard what was taken.
 pub record AreGathered (desks : ℕ) (answers : List Answer) (texts : List Shown) : Type 0 where
   pub histories : List (List (List Item))
   pub are : AllZip (λ (batches : List (List Item)) (desk : Shown). IsDeskOf batches 0 desk) histories texts
   pub tells : Tells desks answers (all_heard histories)
 
--- These are the jobs in the order of their numbers, of which no two are the same, and the replies have their outcomes.
+-- The answers are those of the jobs, in the order of their numbers, no two of which are the same, and the replies have their outcomes.
 pub record AreReplies (jobs : List Job) (answers : List Answer) (replies : List (ℕ × Outcome)) : Type 0 where
   pub jobs_are : IsPermutation jobs (map (λ (a : Answer). a.0) answers)
   pub ascend : IsStrictlyIncreasing (map (λ (a : Answer). a.0.number) answers)
   pub replies_are : replies ≡ map (λ (a : Answer). (a.0.number, a.1)) answers
 
--- The same of these answers in any order, and of jobs that stand in the order of their numbers.
+-- The same, given the answers in any order and the jobs in the order of their numbers.
 pub record AreRepliesFrom (given : List Answer) (jobs : List Job) (replies : List (ℕ × Outcome)) : Type 0 where
   pub answers : List Answer
   pub given_are : IsPermutation given answers
@@ -41,14 +41,14 @@ pub record AreRepliesFrom (given : List Answer) (jobs : List Job) (replies : Lis
   pub ascend : IsStrictlyIncreasing (map (λ (a : Answer). a.0.number) answers)
   pub replies_are : replies ≡ map (λ (a : Answer). (a.0.number, a.1)) answers
 
--- a desk that took some batches, one after another, from tick 0, and whose deltas are therefore of these
+-- a desk that took some batches, one after another, from tick 0, so that its deltas are of these
 pub record IsSomeDesk (desk : Shown) : Type 0 where
   pub batches : List (List Item)
   pub is : IsDeskOf batches 0 desk
 
 -- There is one reply for each job number, in order, with the outcome of its job. All desks keep what is kept of one set: the items of the
--- texts that were taken, and no others, as a desk that takes these texts one after another on one thread. What looks and carries had seen
--- is a beginning of what a running desk published.
+-- texts that were taken, and no others, as does a desk that takes these texts one after another on one thread. What looks and carries had
+-- seen is a prefix of what a running desk published.
 pub record HasEnded (desks : ℕ) (jobs : List Job) (replies : List (ℕ × Outcome)) (ended : List Shown) : Type 0 where
   pub answers : List Answer
   pub are_replies : AreReplies jobs answers replies

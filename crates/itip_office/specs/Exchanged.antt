@@ -1,11 +1,11 @@
--- What desks give and take in the end (our own form).
+-- What desks give and take at the end (our own form).
 use Rattle.std.specs.Prelude.{◌≢◌, ℕ, List, ◌++◌, Result, Ok, Err}
 use Rattle.itip_items.specs.declared.item.Item.{Item}
 use Rattle.itip_desk.specs.Desk.{Shown, IsDeskOf, IsDeltaOf}
 use Rattle.itip_office.specs.declared.error.OfficeError.{OfficeError}
 use Rattle.itip_office.specs.declared.error.OfficeError.TheVariants.{GateClosed, ChannelClosed}
 
--- neither of the two errors that loops alone give
+-- neither of the two errors that only loops return
 abbrev pub AreNoLoops : OfficeError → Type 0
 AreNoLoops error = (error ≢ GateClosed) × (error ≢ ChannelClosed)
 

@@ -1,4 +1,4 @@
--- What a keeper has merged (our own form): into its desk of texts, and into the running desk where it has one.
+-- What a keeper has merged (our own form): into its desk of texts, and into its running desk if it has one.
 use Rattle.std.specs.Prelude.{◌≡◌, ℕ, List, [], ◌∷◌, ◌++◌, map, Option, Some, None, All}
 use Rattle.std.specs.List.{AllZip}
 use Rattle.itip_items.specs.declared.item.Item.{Item}
@@ -13,24 +13,24 @@ use Rattle.itip_office.specs.Answers.{Answer, AnswersMerged}
 use Rattle.itip_office.specs.Taken.{AreTaken}
 use Rattle.itip_office.specs.Seen.{IsBrought}
 
--- These jobs were merged by these batches, one for each, in order.
+-- These batches were merged for these jobs, one for each, in order.
 abbrev pub AreMerged : ℕ → List Answer → List (List Item) → Type 0
 AreMerged desk [] [] = Unit {0}
 AreMerged desk [] (batch ∷ batches) = ⊥
 AreMerged desk (answer ∷ answers) [] = ⊥
 AreMerged desk (answer ∷ answers) (batch ∷ batches) = AnswersMerged desk batch answer.0.work answer.1 × AreMerged desk answers batches
 
--- no refused call of its `publish` is left to be shown, and nothing was submitted since the last of them
+-- no group of a refused call of `publish` is still to be shown, and nothing was submitted since the last call
 pub record HasShownAll (keeper : Keeper) : Type 0 where
   pub shown : calls keeper ≡ publishes keeper
   pub none_fresh : fresh keeper ≡ []
 
--- the running desk of a keeper, where it has one, has nothing pending
+-- the running desk of a keeper, if it has one, has nothing pending
 abbrev pub IsIdle : Option Keeper → Type 0
 IsIdle None = Unit {0}
 IsIdle (Some keeper) = pending keeper ≡ []
 
--- One more batch is published by a keeper, and nothing is pending. Where it had shown all before, the batch is a group by itself.
+-- A keeper published one more batch, and has nothing pending. If it had shown all before, the batch is a group by itself.
 pub record ShowsBatch (old new : Keeper) (batch : List Item) : Type 0 where
   pub whole : published new ≡ published old ++ batch ∷ []
   pub none_pending : pending new ≡ []
@@ -38,15 +38,15 @@ pub record ShowsBatch (old new : Keeper) (batch : List Item) : Type 0 where
   pub all : HasShownAll new
   pub pair : keeper_pair new ≡ keeper_pair old
 
--- The running desk, where there is one, shows one more batch. Where there is none the job is a text.
+-- The running desk, if there is one, shows one more batch. If there is none, the job is a text.
 abbrev pub ShowsOne : Work → Option Keeper → Option Keeper → List Item → Type 0
 ShowsOne work None None batch = IsText work
 ShowsOne work None (Some new) batch = ⊥
 ShowsOne work (Some old) None batch = ⊥
 ShowsOne work (Some old) (Some new) batch = ShowsBatch old new batch
 
--- A keeper published one batch for each of these jobs, in order, for a carry one of what was seen. Where it had shown all before, each is a
--- group by itself.
+-- A keeper published one batch for each of these jobs, in order; that of a carry is made of what was seen. If it had shown all before, each
+-- is a group by itself.
 pub record GrewBy (desk : ℕ) (IsSeen : ℕ → List (List Item) → Type 0) (old new : Keeper) (answers : List Answer) : Type 0 where
   pub batches : List (List Item)
   pub merged : AreMerged desk answers batches
@@ -56,26 +56,26 @@ pub record GrewBy (desk : ℕ) (IsSeen : ℕ → List (List Item) → Type 0) (o
   pub all : HasShownAll old → HasShownAll new
   pub pair : keeper_pair new ≡ keeper_pair old
 
--- The running desk, where there is one, shows one more batch for each of these jobs, in order. Where there is none these are texts.
+-- The running desk, if there is one, shows one more batch for each of these jobs, in order. If there is none, these are texts.
 abbrev pub GrewShown : ℕ → (ℕ → List (List Item) → Type 0) → Option Keeper → Option Keeper → List Answer → Type 0
 GrewShown desk IsSeen None None answers = All (λ (a : Answer). IsText a.0.work) answers
 GrewShown desk IsSeen None (Some new) answers = ⊥
 GrewShown desk IsSeen (Some old) None answers = ⊥
 GrewShown desk IsSeen (Some old) (Some new) answers = GrewBy desk IsSeen old new answers
 
--- The job was merged by some batch.
+-- Some batch was merged for the job.
 abbrev pub IsMerged : ℕ → Answer → Type 0
 IsMerged desk answer = (batch : List Item) × AnswersMerged desk batch answer.0.work answer.1
 
--- The desk of texts took the batch of a text, and nothing of another job.
+-- The desk of texts took the batch of a text, or stayed as it was at a carry. Nothing is said of a look, which has no batch.
 abbrev pub TookText : Work → Shown → Shown → List Item → Type 0
 TookText (Text at bytes) old new batch =
     (steps : List (List Item)) (start : ℕ) → IsDeskOf steps start old → IsDeskOf (steps ++ batch ∷ []) start new
 TookText (Carry from to) old new batch = new ≡ old
 TookText (Look at window) old new batch = Unit {0}
 
--- One job was merged: by its batch, which the desk of texts took where the job is a text, and which was published where there is a running
--- desk. The batch of a carry is of what was seen.
+-- One job was merged: the desk of texts took its batch if the job is a text, and the batch was published if there is a running desk. The
+-- batch of a carry is made of what was seen.
 pub record MergedOne (desk : ℕ) (IsSeen : ℕ → List (List Item) → Type 0) (old new : Shown) (was now : Option Keeper) (answer : Answer)
     : Type 0 where
   pub batch : List Item
@@ -84,7 +84,7 @@ pub record MergedOne (desk : ℕ) (IsSeen : ℕ → List (List Item) → Type 0)
   pub texts : TookText answer.0.work old new batch
   pub shown : ShowsOne answer.0.work was now batch
 
--- Where the job is a text the first batch is its own, and this holds of the others; another job has no batch.
+-- If the job is a text, the first batch is its own, and `Rest` holds of the others; any other job has no batch.
 abbrev pub TextThen : Work → (List (List Item) → Type 0) → List (List Item) → Type 0
 TextThen (Text at bytes) Rest [] = ⊥
 TextThen (Text at bytes) Rest (batch ∷ batches) = IsBatchOf bytes batch × Rest batches
@@ -96,7 +96,7 @@ abbrev pub AreTexts : List Answer → List (List Item) → Type 0
 AreTexts [] batches = batches ≡ []
 AreTexts (answer ∷ answers) batches = TextThen answer.0.work (AreTexts answers) batches
 
--- The desk of texts took the texts of these jobs, one after another, and the jobs were all merged.
+-- The desk of texts took the texts among these jobs, one after another, and all these jobs were merged.
 pub record GrewTexts (desk : ℕ) (old new : Shown) (answers : List Answer) : Type 0 where
   pub batches : List (List Item)
   pub step : (steps : List (List Item)) (start : ℕ) → IsDeskOf steps start old → IsDeskOf (steps ++ batches) start new
@@ -104,7 +104,7 @@ pub record GrewTexts (desk : ℕ) (old new : Shown) (answers : List Answer) : Ty
   pub in_order : AreTexts answers batches
   pub taken : AreTaken answers (heard batches)
 
--- The desk of texts, from tick 0, is that of the texts of these jobs, one after another, and the jobs were all merged.
+-- The desk of texts, from tick 0, is that of the texts among these jobs, one after another, and all these jobs were merged.
 pub record HasMerged (desk : ℕ) (answers : List Answer) (texts : Shown) : Type 0 where
   pub batches : List (List Item)
   pub is : IsDeskOf batches 0 texts

@@ -1,4 +1,4 @@
--- The number under which the end of an office is shown (our own).
+-- The number under which an error of an office is shown (our own).
 use Rattle.std.specs.Prelude.{ℕ}
 use Rattle.itip_office.specs.declared.error.OfficeError.{OfficeError}
 use Rattle.itip_office.specs.declared.error.OfficeError.TheVariants as error

@@ -1,4 +1,4 @@
--- Which running desk a keeper and passes are of (our own form).
+-- Which running desk a keeper and passes belong to (our own form).
 use Rattle.std.specs.Prelude.{◌≡◌, ◌+◌, ℕ, zero, suc, List, [], ◌∷◌, Option, Some, None, All}
 use Rattle.logbook.specs.Pages.{Book}
 use Rattle.itip_desk.specs.Desk.{Shown, IsDeskOf}
@@ -10,7 +10,7 @@ use Rattle.itip_office.specs.Answers.{Answer}
 use Rattle.itip_office.specs.Merged.{IsIdle, HasMerged}
 use Rattle.itip_office.specs.Published.{ArePublished, shown_of}
 
--- the pair of a running desk, where there is one
+-- the pair of a running desk, if there is one
 abbrev pub pair_of : Option Keeper → Option Book
 pair_of None = None
 pair_of (Some keeper) = keeper_pair keeper
@@ -21,17 +21,17 @@ pair_at [] desk = None
 pair_at (shown ∷ rest) zero = pair_of shown
 pair_at (shown ∷ rest) (suc desk) = pair_at rest desk
 
--- the running desk, where there is one, is of this pair
+-- the running desk, if there is one, is of this pair
 abbrev pub IsOfPair : Option Book → Option Keeper → Type 0
 IsOfPair pair None = Unit {0}
 IsOfPair pair (Some keeper) = keeper_pair keeper ≡ pair
 
--- nothing was published by it
+-- the running desk, if there is one, has published nothing
 abbrev pub IsUnpublished : Option Keeper → Type 0
 IsUnpublished None = Unit {0}
 IsUnpublished (Some keeper) = publishes keeper ≡ []
 
--- A desk that was just started has heard nothing and has nothing pending.
+-- A desk that has just been started: it has heard nothing, published nothing, and has nothing pending.
 pub record IsFresh (pair : Option Book) (texts : Shown) (shown : Option Keeper) : Type 0 where
   pub empty : IsDeskOf [] 0 texts
   pub idle : IsIdle shown
@@ -43,12 +43,13 @@ pub record IsStarted (pair : Option Book) (texts : Shown) (shown : Option Keeper
   pub fresh : IsFresh pair texts shown
   pub passes_are : All (λ (p : Pass). pass_pair p ≡ pair) passes
 
--- These have the numbers from this one on, in order.
+-- These are numbered from `n` on, in order.
 abbrev pub AreNumbered : {X : Type 0} → (X → ℕ) → ℕ → List X → Type 0
 AreNumbered number n [] = Unit {0}
 AreNumbered number n (x ∷ xs) = (number x ≡ n) × AreNumbered number (n + 1) xs
 
--- A keeper of this pair has a desk of the texts that it answers, and it published the batches of all that it answers.
+-- A keeper of this pair has a desk of the texts that it answers, and published the batches of all that it answers if it has a running
+-- desk.
 pub record HasKept (pair : Option Book) (IsSeen : ℕ → List (List Item) → Type 0) (desk : ℕ) (answers : List Answer) (texts : Shown)
     (shown : Option Keeper) : Type 0 where
   pub merged : HasMerged desk answers texts

@@ -22,15 +22,15 @@ Source = ℕ × List (List Item)
 abbrev pub IsOneOf : List Source → ℕ → List (List Item) → Type 0
 IsOneOf sources desk seen = Contains sources (desk, seen)
 
--- The outcome of a look is the list of all heard in these batches, or it is refused since that has too many rows in the window. A list has
--- at most 100,000 rows, so it is refused exactly where there are more.
+-- The outcome of a look is the list of all heard in these batches, or a refusal since they have too many rows in the window. A list has at
+-- most 100,000 rows, so a look is refused exactly if there are more.
 abbrev pub IsListed : List (List Item) → Window → Outcome → Type 0
 IsListed steps window (Took desk items) = ⊥
 IsListed steps window (Carried from to items) = ⊥
 IsListed steps window (Looked text) = IsListText (heard steps) window text.items
 IsListed steps window (Refused refusal) = (refusal ≡ TooManyRows) × AreTooMany (heard steps) window
 
--- It is the list of batches that were seen of the desk.
+-- The outcome is that of a look at batches that were seen of the desk.
 pub record Shows (IsSeen : ℕ → List (List Item) → Type 0) (desk : ℕ) (window : Window) (outcome : Outcome) : Type 0 where
   pub seen : List (List Item)
   pub is_seen : IsSeen desk seen

@@ -15,13 +15,13 @@ IsMergedAt (Text at bytes) desk = desk ≡ at
 IsMergedAt (Carry from to) desk = desk ≡ to
 IsMergedAt (Look at window) desk = ⊥
 
--- It answers the job itself, or hands a batch on that the job is merged by, to the desk that it names for that, which is there, as are
--- all that it names.
+-- The worker answers the job itself, or hands on a batch to be merged for it, to the desk at which the job is merged; all desks that the
+-- job names are there then.
 abbrev pub IsStepOf : ℕ → Work → Step → Type 0
 IsStepOf desks work (Answers outcome) = AnswersAlone desks work outcome
 IsStepOf desks work (HandsOn desk batch) = (desk < desks) × IsMergedAt work desk × AreThere desks work × Merges work batch
 
--- A look that it answers shows batches that were seen of its desk, and the batch of a carry that it hands on is of such.
+-- A look that it answers shows batches that were seen of its desk, and the batch of a carry that it hands on is made of such.
 abbrev pub HasSeen : ℕ → (ℕ → List (List Item) → Type 0) → Work → Step → Type 0
 HasSeen desks IsSeen work (Answers outcome) = LooksAt desks IsSeen work outcome
 HasSeen desks IsSeen work (HandsOn desk batch) = IsBrought IsSeen work batch

@@ -1,4 +1,4 @@
--- The batch of a job: that of a text has what its octets read as, by canonical octets and each once (our own rule).
+-- The batch of a job: that of a text has the items that its bytes read as, sorted by canonical bytes, each once (our own rule).
 use Rattle.std.specs.Prelude.{◌<◌, ℕ, List}
 use Rattle.itip_message.specs.Message.{ReadsMessage}
 use Rattle.itip_items.specs.declared.item.Item.{Item}
@@ -6,13 +6,13 @@ use Rattle.itip_state.specs.Kept.{IsItemsOf}
 use Rattle.itip_office.specs.declared.job.Work.{Work}
 use Rattle.itip_office.specs.declared.job.Work.TheVariants.{Text, Carry, Look}
 
--- the octets are a message, and the batch has its items
+-- the bytes are a message, and the batch has its items
 pub record IsBatchOf (bytes : List ℕ) (batch : List Item) : Type 0 where
   pub items : List Item
   pub reads : ReadsMessage bytes items
   pub is_items : IsItemsOf batch items
 
--- A job is merged by such a batch: a text by its own, a carry by any, and a look by none.
+-- This batch may be merged for the job: for a text its own, for a carry any, and for a look none.
 abbrev pub Merges : Work → List Item → Type 0
 Merges (Text desk bytes) batch = IsBatchOf bytes batch
 Merges (Carry from to) batch = Unit {0}

@@ -1,4 +1,4 @@
-//! What a loop has answered.
+//! The answers of a loop.
 ghost use Rattle.std.specs.Prelude.{◌≡◌, ◌++◌, ◌∷◌, [], OnOk, IsErrOf, option_to_list};
 
 use crate::error::OfficeError;
@@ -8,7 +8,7 @@ use crate::outcome::Outcome;
 use crate::pairs::Pairs;
 use crate::source::{Source, push_some};
 
-/// Puts an answer behind those that were found before, and what was seen for it, where something was. The gate hears that the job is done.
+/// Appends an answer to those found before, and what was seen for it, if anything. Tells the gate that the job is done.
 pub(crate) fn keep_answer<N: Pairs, G: Gate>(
     gate: &G,
     found: &mut (Vec<(Job, Outcome)>, Vec<Source<N>>),

@@ -22,13 +22,13 @@ use itip_desk::{Batch, Desk, DeskError};
 use itip_running::Keeper;
 use std::sync::Wait;
 
-/// Merges what comes until the channel is closed, and gives back what it was handed, with the jobs that it answered and their outcomes, in
-/// the order in which it merged them: the desk of texts takes the batches of texts alone, and the running desk, where there is one, all
-/// batches, each published before the next, so that each is a group by itself where no call of `publish` was refused before. The keeper
-/// is handed in with nothing pending, and nothing is pending then. Beside the answers it gives what its carries had seen.
+/// Merges what comes until the channel is closed. Returns the desks, the jobs that it answered with their outcomes, in the order in
+/// which it merged them, and what its carries had seen. The desk of texts takes only the batches of texts. The running desk, if there is
+/// one, takes all batches, each published before the next, so that each is a group by itself unless a call of `publish` was refused
+/// before. The keeper has nothing pending when it is handed in, and nothing when it is returned.
 ///
-/// Ends early if an allocation failed (40), if the gate is closed (42), for what a desk or a keeper refuses (21, 41), or where a carry comes
-/// and there is no running desk (44); the keeper is spent then.
+/// Ends early if an allocation fails (40), if the gate is closed (42), if a desk or a keeper refuses a batch (21, 41), or if a carry comes
+/// and there is no running desk (44). The running desk has then been taken apart.
 pub fn keeper_loop<N: Pairs, R: AllocGlobal + Wait, G: Gate>(
     rt: &R,
     desk: u64,
@@ -80,7 +80,7 @@ fn merge_all<N: Pairs, R: AllocGlobal + Wait, G: Gate>(
     unreachable!()
 }
 
-// Merges what came at once. What it finds it puts behind what was found before.
+// Merges what came at once, and appends what it finds to `found`.
 fn merge_some<N: Pairs, R: Wait, G: Gate>(
     rt: &R,
     desk: u64,
@@ -129,7 +129,7 @@ fn merge_one<N: Pairs, R: Wait, G: Gate>(
     }
 }
 
-// The outcome of a job whose batch is merged, where the gate lets it through.
+// Merges the batch of a job, if the gate lets it through, and returns the outcome.
 fn merge_batch<R: Wait, G: Gate>(
     rt: &R,
     desk: u64,
@@ -155,7 +155,7 @@ fn merge_batch<R: Wait, G: Gate>(
     Ok(outcome)
 }
 
-/// Has the desk of texts take the batch of a text, and nothing of another job.
+/// Has the desk of texts take the batch of a text; the batch of any other job is left out.
 fn take_text(texts: &mut Desk, work: &Work, batch: &Batch) -> Result<(), OfficeError>
     ensures took { OnOk result (TookText work.now texts.old texts.new batch.now) }
     ensures open { IfErr result (λ e. e ≢ OfficeError.GateClosed) }
@@ -171,7 +171,7 @@ fn take_text(texts: &mut Desk, work: &Work, batch: &Batch) -> Result<(), OfficeE
     }
 }
 
-/// Publishes a batch by itself, where there is a running desk. A carry is refused where there is none.
+/// Publishes a batch by itself, if there is a running desk. If there is none, a carry fails with 44.
 fn show<R: Wait>(
     rt: &R,
     shown: &mut Option<Keeper>,

@@ -13,8 +13,8 @@ use std::alloc::{AllocError, Global};
 use std::thread;
 use std::thread::Threads;
 
-/// So many of these desks, each of which has taken what all keep, each on a thread of its own. A desk that is alone stays as it is. 44
-/// where there are fewer.
+/// The first `desks` of these desks, once each has taken what all of them keep, each on a thread of its own. A single desk is left as it
+/// is. Fails with 44 if there are fewer.
 pub(crate) fn exchange<R: Threads + Sync>(
     rt: &R,
     alloc: Global,
@@ -65,7 +65,7 @@ fn delta_of(desk: &Desk) -> Result<Batch, OfficeError>
     }
 }
 
-// Each desk with all deltas.
+// Each desk after it has taken all deltas.
 fn with_deltas<R: Threads + Sync>(
     rt: &R,
     desks: Vec<Desk>,
@@ -92,7 +92,7 @@ fn with_all(desk: Desk, deltas: &[Batch]) -> Result<Desk, OfficeError>
     Ok(desk)
 }
 
-// What all of these are, where none is an error, or an error of them.
+// The values, if none of these is an error; else the first error.
 fn all_ok<T: Drop>(alloc: Global, all: Vec<Result<T, OfficeError>>) -> Result<Vec<T>, OfficeError>
     ensures all { IfOk result (λ values. all.items ≡ map Ok values.items) }
     ensures cause { All (λ one. IfErr one AreNoLoops) all.items → IfErr result AreNoLoops }

@@ -1,13 +1,13 @@
-//! Who lets jobs through.
+//! The gate, which lets jobs through.
 ghost use Rattle.std.specs.Prelude.{IsFalse};
 
-/// What the loops of an office ask before they go on. Jobs and desks are meant by their numbers. A loop that hears `false` ends by 42, and
-/// so does the office, unless a thread answers a lower number.
+/// What the loops of an office ask before they go on. Jobs and desks are given by their numbers. A loop that is answered `false` ends with
+/// 42, and so does the office, unless a thread returns a lower number.
 pub trait Gate {
-    // What is so where a gate of this type may say `false`. One that never does has nothing here that can be so.
+    // What holds if a gate of this type answers `false`: an absurdity for a type that never does.
     ghost may_close: { Type 0 } = { Unit {0} };
 
-    /// Whether it may wait before it answers, as for another job. Where it may not, a worker hands several merges on at once.
+    /// Whether the gate may wait before it answers, for another job for example. If it may not, a worker hands on several merges at once.
     fn may_wait(&self) -> bool {
         true
     }
@@ -20,7 +20,7 @@ pub trait Gate {
     fn keeper(&self, desk: u64, job: u64) -> bool
         ensures { IsFalse result → may_close };
 
-    /// Asked once the outcome of a job is in the list of a loop.
+    /// Asked once the outcome of a job is in the list of its loop.
     fn done(&self, job: u64) -> bool
         ensures { IsFalse result → may_close };
 }

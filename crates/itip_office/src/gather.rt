@@ -1,4 +1,4 @@
-//! Gathering what the threads answered.
+//! Gathering what the threads returned.
 ghost use Rattle.std.specs.Prelude.{◌≡◌, map, All, IfOk, IfErr, IsTrue};
 ghost use Rattle.itip_office.specs.Texts.{desk_of, AreThere};
 ghost use Rattle.itip_office.specs.Answers.{AnswersAlone};
@@ -14,8 +14,8 @@ use crate::team::{Done, Merged};
 use itip_desk::Desk;
 use std::sync::Wait;
 
-/// All answers in one list, and the desks of texts of all keepers. 44 where a keeper answered a job that is for another desk, or that names
-/// a desk that isn't there.
+/// All answers in one list, and the desks of texts of all keepers. Fails with 44 if a keeper answered a job that is for another desk or
+/// that names a desk that isn't there.
 pub(crate) fn gather<R: AllocGlobal + Wait + Copy>(
     rt: &R,
     desks: usize,
@@ -46,7 +46,7 @@ pub(crate) fn gather<R: AllocGlobal + Wait + Copy>(
     Ok((answers, texts))
 }
 
-// Whether these are jobs for this desk, of so many desks.
+// Whether all these jobs are for this desk, and all desks that they name are below `desks`.
 fn are_for(desk: u64, desks: u64, answers: &[(Job, Outcome)]) -> bool
     ensures { IsTrue result → All (λ a. (desk_of a.0.work ≡ desk) × AreThere desks a.0.work) answers.now }
 {

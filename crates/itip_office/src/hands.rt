@@ -9,11 +9,11 @@ use std::alloc::{AllocError, Global};
 use std::mem;
 use std::sync::Wait;
 
-/// How many merges go to a keeper at once, where no gate may wait. To wake a keeper for each costs more than to read a text.
+/// How many merges go to a keeper at once if the gate may not wait. Waking a keeper for each costs more than reading a text.
 const AT_ONCE: usize = 64;
 
-/// The ways to keepers, and for each the merges that wait to be handed on. There is a keeper of each desk, in the order of desks, and then
-/// perhaps one more of each, and so on.
+/// The channels to the keepers, and for each the merges that wait to be handed on. There is a keeper for each desk, in the order of desks,
+/// then perhaps another for each, and so on.
 #[derive(Drop)]
 pub(crate) struct Hands<N: Pairs> {
     alloc: Global,
@@ -24,7 +24,7 @@ pub(crate) struct Hands<N: Pairs> {
 }
 
 impl<N: Pairs> Hands<N> {
-    /// Where a gate may wait, each merge is handed on by itself.
+    /// Nothing waits yet. If the gate may wait, each merge will be handed on by itself.
     pub(crate) fn new(
         alloc: Global,
         desks: usize,
@@ -44,8 +44,8 @@ impl<N: Pairs> Hands<N> {
         })
     }
 
-    /// Puts a merge behind those that wait for a keeper of its desk, and hands these on where they are many. The revisions of a to-do go to
-    /// one keeper.
+    /// Adds a merge to those that wait for a keeper of its desk, and hands these on once there are enough. Merges whose first items have
+    /// the same UID go to the same keeper of the desk.
     pub(crate) fn hand_on<R: Wait>(
         &mut self,
         rt: &R,
@@ -65,14 +65,14 @@ impl<N: Pairs> Hands<N> {
         self.send(rt, at)
     }
 
-    /// Which keeper of a desk gets a merge.
+    /// The index of the keeper that gets a merge for a desk.
     fn keeper_of(&self, desk: usize, merge: &Merge<N>) -> usize {
         let rounds = self.keepers.len().checked_div(self.desks).unwrap_or(0);
         let round = merge.share(rounds);
         round.saturating_mul(self.desks).saturating_add(desk)
     }
 
-    /// Hands on all that waits.
+    /// Hands on everything that waits.
     pub(crate) fn send_all<R: Wait>(&mut self, rt: &R) -> Result<(), OfficeError>
         ensures { IfErr result (λ e. e ≢ OfficeError.GateClosed) }
     {

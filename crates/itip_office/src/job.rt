@@ -5,21 +5,21 @@ use itip_lines::Bytes;
 use itip_view::Window;
 use std::alloc::AllocError;
 
-/// A job of an office, and its number.
+/// A job of an office, with its number.
 #[derive(Debug, Drop)]
 pub struct Job {
     pub number: u64,
     pub work: Work,
 }
 
-/// What a job asks for. Desks are numbered from 0, whether or not there is such a desk.
+/// What a job asks for. Desks are numbered from 0; the number may be of a desk that isn't there.
 #[derive(Debug, Drop)]
 pub enum Work {
     /// The desk takes a message.
     Text { desk: u64, bytes: Bytes },
-    /// All that one desk keeps comes to another.
+    /// All that one desk keeps is brought to another.
     Carry { from: u64, to: u64 },
-    /// The task list of the desk in a window is looked at.
+    /// A look at the task list of the desk in a window.
     Look { desk: u64, window: Window },
 }
 
@@ -41,7 +41,7 @@ impl Job {
         }
     }
 
-    /// Whether the desks that it names are there, where there are so many.
+    /// Whether the desks that the job names are there, if there are `desks` of them.
     pub(crate) fn is_within(&self, desks: u64) -> bool
         ensures { IsTrue result ↔ AreThere desks self.now.work }
     {
@@ -52,7 +52,7 @@ impl Job {
         }
     }
 
-    /// Whether a running desk is read for it.
+    /// Whether the job reads a running desk.
     pub(crate) fn needs_pass(&self) -> bool {
         !self.work.is_text()
     }

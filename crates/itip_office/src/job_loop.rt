@@ -25,19 +25,19 @@ use std::sync::Wait;
 /// What a worker does with a job.
 #[derive(Drop)]
 pub(crate) enum Step {
-    /// It has the outcome.
+    /// The worker answers the job itself, with this outcome.
     Answers(Outcome),
     /// The batch goes to the keeper of the desk.
     HandsOn { desk: usize, batch: Batch },
 }
 
-/// Takes jobs until their channel is closed, and gives those that it answered itself, with their outcomes: a desk that isn't there (50), a
-/// text that is refused, and a look. What else there is to merge goes to a keeper of the desk. There are keepers for each of so many desks,
-/// in the order of desks; where these are several rounds of keepers, texts go to one of them by UID. Looks and carries need a seat at each
-/// desk, in the order of desks. Beside the answers it gives what its looks had seen.
+/// Takes jobs until their channel is closed. Returns those that it answered itself, with their outcomes, and what its looks had seen. It
+/// answers a job that names a desk that isn't there (50), a text that is refused, and a look; everything else goes to a keeper of the desk
+/// to be merged. `keepers` are those of `desks` desks, in the order of desks; if there are several rounds of them, texts are divided among
+/// the keepers of a desk by UID. Looks and carries need a seat at each desk, in the order of desks.
 ///
-/// Ends early if an allocation failed (40), if a keeper isn't there (41), if the gate is closed (42), if a keeper takes nothing more (43),
-/// or if a pass is refused the entry, or isn't there (45). The seats are dropped in the end.
+/// Ends early if an allocation fails (40), if a keeper isn't there (41), if the gate is closed (42), if a keeper takes nothing more (43),
+/// or if a pass is refused entry or isn't there (45). The seats are dropped at the end.
 pub fn worker_loop<N: Pairs, R: AllocGlobal + Wait, G: Gate>(
     rt: &R,
     desks: usize,
@@ -66,7 +66,7 @@ pub fn worker_loop<N: Pairs, R: AllocGlobal + Wait, G: Gate>(
     Ok(found)
 }
 
-// Takes jobs until their channel is closed, and hands on what is left then. What it finds it puts behind what was found before.
+// Takes jobs until their channel is closed, then hands on what is left. Appends what it finds to `found`.
 fn answer_all<N: Pairs, R: AllocGlobal + Wait, G: Gate>(
     rt: &R,
     seats: &mut [Seat<N>],
@@ -90,7 +90,7 @@ fn answer_all<N: Pairs, R: AllocGlobal + Wait, G: Gate>(
     unreachable!()
 }
 
-// Does a job, where the gate lets it through.
+// Does a job, if the gate lets it through.
 fn answer_one<N: Pairs, R: AllocGlobal + Wait, G: Gate>(
     rt: &R,
     seats: &mut [Seat<N>],
@@ -114,8 +114,8 @@ fn answer_one<N: Pairs, R: AllocGlobal + Wait, G: Gate>(
     Ok(())
 }
 
-// The job with its outcome and what it had seen, or nothing where it is handed on. What was read before is handed on before a pass looks or
-// carries.
+// The job with its outcome and what it had seen, or `None` if it is handed on. Before a pass looks or carries, what was read so far is
+// handed on.
 fn do_job<N: Pairs, R: AllocGlobal + Wait>(
     rt: &R,
     seats: &mut [Seat<N>],
@@ -139,7 +139,7 @@ fn do_job<N: Pairs, R: AllocGlobal + Wait>(
     }
 }
 
-// What to do with a job, and what its look or its carry had seen.
+// What to do with a job, and what its look or carry had seen.
 fn step_of<N: Pairs>(
     alloc: Global,
     seats: &mut [Seat<N>],
@@ -175,7 +175,7 @@ fn read_text(alloc: Global, desks: usize, at: u64, bytes: &[u8]) -> Result<Step,
     }
 }
 
-// A desk that all comes from is looked for before the one that it comes to.
+// The desk that the carry comes from is checked before the one that it goes to.
 fn carry<N: Pairs>(
     seats: &mut [Seat<N>],
     desks: usize,
@@ -240,7 +240,7 @@ fn refused(refusal: Refusal) -> Step
     Step::Answers(Outcome::Refused(refusal))
 }
 
-// Why a worker ends, where a pass has neither an answer nor too many rows.
+// Why a worker ends if a pass fails for anything but too many rows.
 fn error_of(error: PassError) -> OfficeError
     requires { error ≢ PassError.TooManyRows }
     ensures { result ≢ OfficeError.GateClosed }

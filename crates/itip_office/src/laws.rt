@@ -1,4 +1,4 @@
-//! The law of what an office ends with. It holds with no code: the function is empty.
+//! The law of what an office ends with. The function does nothing: its contract is the law.
 ghost use Rattle.std.specs.Prelude.{◌≡◌, ℕ, List, IsPermutation};
 ghost use Rattle.std.specs.List.{Contains};
 ghost use Rattle.itip_state.specs.Kept.{SameItems};
@@ -8,8 +8,8 @@ ghost use Rattle.itip_office.specs.declared.outcome.Outcome.{Outcome};
 ghost use Rattle.itip_office.specs.Texts.{IsText};
 ghost use Rattle.itip_office.specs.Ended.{HasEnded};
 
-/// Offices of as many desks that end with the same jobs, in whatever order these were handed in, keep the same at all desks, and answer each
-/// text alike: whatever the workers, the schedule, and what carries brought (our own rule).
+/// Offices with the same number of desks that end with the same jobs, handed in in any order, keep the same at all desks and answer each
+/// text alike, whatever the workers, the schedule and what carries brought (our own rule).
 pub fn one_end()
     ensures desks { (desks : ℕ) (jobs others : List Job) (replies answered : List (ℕ × Outcome)) (ended apart : List Shown) →
         IsPermutation jobs others → HasEnded desks jobs replies ended → HasEnded desks others answered apart →

@@ -1,13 +1,12 @@
-//! An office: jobs run on threads, over one running desk for each place, as a script asks for them.
+//! An office: the jobs of a script, run on threads over a number of desks.
 //!
 //! Workers take jobs from one channel: they read texts, carry deltas from desk to desk and look at lists. What is to be merged they
-//! send to the desk's keeper. It has a desk of its own, which takes texts alone; and where some job looks or carries, a running desk beside
-//! it, into which it merges all that comes and publishes it, for readers. Once all jobs are done the desks of texts exchange everything.
+//! send to a keeper of the desk. A keeper has a desk that takes only texts and, if some job looks or carries, also a running desk, where
+//! it merges everything that comes and publishes it for readers. Once all jobs are done the desks of texts exchange everything.
 //!
-//! Where an office answers, the same texts are taken whatever the schedule, and all desks end with what is kept of one set, which has
-//! the items of these texts and no others: what carries brought is in no desk of texts. So the desks keep what those of one thread
-//! keep. What a carry brings and what a look shows depends on the schedule: it is of the first so many batches of a
-//! desk, perhaps of none.
+//! If an office answers, the same texts are taken whatever the schedule, and all desks end with what is kept of one set: the items of
+//! these texts and no others, since what carries brought is in no desk of texts. So the desks keep what those of a single thread keep.
+//! What a carry brings and what a look shows depends on the schedule: it is made of a prefix, perhaps empty, of the batches of a desk.
 #![tactic(auto)]
 
 mod answers;

@@ -8,8 +8,8 @@ use crate::pairs::Pairs;
 use crate::source::Source;
 use itip_desk::Batch;
 
-/// A job, and the batch that its desk is to merge. The job is a text or a carry. The batch of a text has the items that the text reads as,
-/// and that of a carry all that is kept of what a pass of the desk that it comes from had seen.
+/// A job, and the batch that its desk is to merge. The job is a text or a carry. The batch of a text has the items that the text reads as;
+/// that of a carry has all that is kept of what a pass of the desk that it comes from had seen.
 #[derive(Drop)]
 pub struct Merge<N: Pairs> {
     job: Job,
@@ -28,8 +28,8 @@ impl<N: Pairs> Merge<N> {
         Merge { job, batch, source }
     }
 
-    /// Which of so many shares it is in, by the UID of its items, the first where they have several. The first share where there is one or
-    /// none.
+    /// Which of `shares` shares the merge is in, from 0, by the UID of its first item. Returns 0 if there are fewer than two shares, or no
+    /// items.
     pub(crate) fn share(&self, shares: usize) -> usize {
         if shares < 2 {
             return 0;
@@ -50,7 +50,7 @@ impl<N: Pairs> Merge<N> {
     }
 }
 
-// A number that two texts seldom have in common.
+// A hash: two texts seldom have the same.
 fn number_of(text: &str) -> u32 {
     let mut number = 0;
     for byte in text.as_bytes() {

@@ -1,4 +1,4 @@
-//! An office from its jobs to its desks.
+//! An office, from its jobs to its desks.
 ghost use Rattle.std.specs.Prelude.{◌≤◌, IfOk, IsErrOf};
 ghost use Rattle.itip_office.specs.Ended.{HasEnded};
 
@@ -17,22 +17,22 @@ use std::thread::Threads;
 /// What an office ends with.
 #[derive(Drop)]
 pub struct Office {
-    /// The desks, each of which keeps what the others keep.
+    /// The desks, all of which keep the same.
     pub desks: Vec<Desk>,
     /// The outcome of each job, by its number, in the order of numbers.
     pub replies: Vec<(u64, Outcome)>,
 }
 
-/// Runs jobs on threads: one for each worker, and one for each keeper. A desk has one keeper, or, where no job looks or carries, as many as
-/// there are workers for each desk. Desks are empty in the beginning. Once the jobs are done each desk takes what the others keep of texts.
-/// What carries brought meanwhile is seen by looks and by other carries; what desks end with doesn't rest on it.
-/// A look lists the batches of the first so many jobs that its desk merged, perhaps of none, and is refused by 31 exactly where these have
-/// too many rows; a carry brings all that is kept of such batches of the desk that it comes from.
+/// Runs jobs on threads: one for each worker, and one for each keeper. A desk has one keeper or, if no job looks or carries, as many as
+/// there are workers for each desk, at least one. Desks are empty at the beginning. Once the jobs are done each desk takes what the others
+/// keep of texts. What carries brought in the meantime is seen by looks and by other carries, and makes no difference to what desks end
+/// with. A look lists a prefix, perhaps empty, of the batches that its desk merged, and is refused with 31 exactly if these have too many
+/// rows; a carry brings all that is kept of such a prefix of the desk that it comes from.
 ///
-/// Ends early if an allocation failed (40), if a thread could not be made or a desk gave no place (41), if the gate said so (42), if two
-/// jobs have one number (44), if a desk refused an entry (45), or if a count is spent (21): with 40 or 41 before all if not all threads
-/// were made, else with the lowest number that the threads answer, and then with 44 where what they answer doesn't fit. All threads have
-/// returned by then. Of these numbers clauses name 42 and 43 alone.
+/// Ends early if an allocation fails (40), if a thread can't be made or a desk has no place for a reader (41), if the gate is closed (42),
+/// if two jobs have the same number (44), if a desk refuses entry to a pass (45), or if a count is spent (21). If not all threads were
+/// made, the error is 40 or 41; else it is the lowest number that the threads return, and then 44 if what they return doesn't fit. All
+/// threads have returned by then. The clauses speak of 42 and 43 only.
 pub fn run_office<
     R: AllocGlobal + Threads + Wait + Copy + Send + Sync + 'static,
     G: Gate + Send + Sync + Drop + 'static,

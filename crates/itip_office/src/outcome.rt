@@ -1,17 +1,17 @@
-//! What came of a job.
+//! The outcome of a job.
 
 use itip_desk::Refusal;
 
 /// What came of a job.
 #[derive(Debug, Drop)]
 pub enum Outcome {
-    /// The desk took the text, of so many different items.
+    /// The desk took the text, which has `items` different items.
     Took { desk: u64, items: usize },
-    /// So many items came from one desk to another.
+    /// `items` items were brought from one desk to another.
     Carried { from: u64, to: u64, items: usize },
-    /// The task list of the first so many batches, perhaps none, that the keeper of the desk published.
+    /// The task list of a prefix, perhaps empty, of the batches that the keeper of the desk published.
     Looked { text: Vec<u8> },
-    /// It was refused: its text is no message (1 to 15), its list has more than 100,000 rows (31), or a desk that it names isn't there
+    /// The job was refused: its text is no message (1 to 15), its list has more than 100,000 rows (31), or a desk that it names isn't there
     /// (50).
     Refused(Refusal),
 }

@@ -4,8 +4,8 @@ use itip_desk::Desk;
 use itip_running::{Keeper, meet};
 use std::sync::Wait;
 
-/// A desk that takes texts alone; where jobs look or carry, a running desk beside it, which shows all that is merged; and the handle by
-/// which it waits. Its pair is taken apart where it is dropped.
+/// A desk that takes only texts; if jobs look or carry, also a running desk, which shows everything that is merged; and the handle by which
+/// the keeper waits. Dropping it takes the pair apart.
 pub(crate) struct OwnedKeeper<R: AllocGlobal + Wait + Copy> {
     pub(crate) texts: Desk,
     pub(crate) shown: Option<Keeper>,
@@ -23,7 +23,7 @@ impl<R: AllocGlobal + Wait + Copy> OwnedKeeper<R> {
         (texts, shown, rt)
     }
 
-    /// The desk of texts. The pair is taken apart.
+    /// Takes the pair apart, and returns the desk of texts.
     pub(crate) fn into_texts(self) -> Desk
         ensures { result ≡ self.texts }
     {
@@ -44,7 +44,7 @@ impl<R: AllocGlobal + Wait + Copy> Drop for OwnedKeeper<R> {
     }
 }
 
-/// Takes a pair apart, where there is one.
+/// Takes a pair apart, if there is one.
 pub(crate) fn close<R: AllocGlobal + Wait>(rt: &R, shown: Option<Keeper>) {
     match shown {
         Some(keeper) => {

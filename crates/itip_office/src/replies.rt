@@ -8,10 +8,10 @@ use crate::job::Job;
 use crate::outcome::Outcome;
 use std::alloc::Global;
 
-/// The outcome of each of these jobs, which stand in the order of their numbers.
+/// The outcome of each of these jobs, by its number. The jobs are in the order of their numbers.
 ///
-/// Refused where two jobs have one number; or, which no run meets, where an answer is of no job or of one that was answered before, or a
-/// job has no answer (44).
+/// Fails with 44 if two jobs have the same number or, which happens in no run, if an answer is of no job or of one that was answered
+/// before, or if a job has no answer.
 pub(crate) fn replies(
     alloc: Global,
     jobs: &[Job],
@@ -32,14 +32,14 @@ pub(crate) fn replies(
     Ok(replies)
 }
 
-// Whether the numbers rise.
+// Whether the numbers are strictly increasing.
 fn is_each_once(jobs: &[Job]) -> bool
     ensures { IsTrue result → IsStrictlyIncreasing (map (λ job. job.number) jobs.now) }
 {
     jobs.is_sorted_by(|one, other| one.number < other.number)
 }
 
-// Whether these are the answers to the jobs, one after another.
+// Whether these are the answers to the jobs, one for each, in their order.
 fn are_all_answered(jobs: &[Job], answers: &[(Job, Outcome)]) -> bool
     ensures { IsTrue result → map (λ a. a.0) answers.now ≡ jobs.now }
 {

@@ -25,14 +25,14 @@ use std::io::{Read, Write};
 use std::sync::Wait;
 use std::thread::Threads;
 
-/// Runs the jobs of a script on threads, as [`run_office`] does: one for each worker, and one for each keeper. Each job that is
-/// refused is written as `job N refused C`, in the order of the jobs, and then the list of each desk. Says whether something written was a
-/// refusal. Beside the output `watch` is told what is refused, and nothing where the script could not be read or the jobs ended
-/// in an error.
+/// Runs the jobs of a script on threads, as [`run_office`] does: one for each worker, and one for each keeper. Writes `job N refused C` for
+/// each job that is refused, in the order of the jobs, and then the list of each desk. Returns whether anything written was a refusal. In
+/// addition to the output, `watch` is told what is refused; it is told nothing if the script could not be read or the jobs ended in an
+/// error.
 ///
 /// Jobs are numbered from 0, by their commands. The whole script is read before anything is done. A script of more than
-/// [`MAX_OCTETS`](itip_script::MAX_OCTETS) is refused as a whole (61). After a fault a front of the output was written, nothing of it
-/// unless a write or an allocation failed.
+/// [`MAX_OCTETS`](itip_script::MAX_OCTETS) bytes is refused as a whole (61). On an error, a prefix of the output has been written: nothing
+/// of it unless a write or an allocation failed.
 pub fn run_jobs<
     R: AllocGlobal + Threads + Wait + Copy + Send + Sync + 'static,
     I: Read,
@@ -70,7 +70,8 @@ pub fn run_jobs<
     Ok(end_script(alloc, writer, refused, ended, window, watch)?)
 }
 
-// The refused jobs of a script, in the order of their numbers, and the desks that the others end with. The script goes before they run.
+// The refused jobs of a script, in the order of their numbers, and the desks that the others end with. The script is dropped before they
+// run.
 fn run_script<R: AllocGlobal + Threads + Wait + Copy + Send + Sync + 'static>(
     rt: &R,
     desks: usize,
@@ -92,7 +93,7 @@ fn run_script<R: AllocGlobal + Threads + Wait + Copy + Send + Sync + 'static>(
     Ok((refused, ended.desks))
 }
 
-// Tells and writes what a script ends with. It is dropped here, once for all answers.
+// Tells the watch and writes what a script ends with. `refused` and `ended` are dropped here, whatever is returned.
 fn end_script<W: Write, T: Watch>(
     alloc: Global,
     writer: &mut W,
@@ -122,7 +123,7 @@ fn refuse_whole<W: Write>(alloc: Global, writer: &mut W) -> Result<bool, StreamF
     Ok(true)
 }
 
-/// These refused jobs and those of the replies, in the order of their numbers.
+/// These refused jobs and those among the replies, in the order of their numbers.
 fn refused_jobs(
     others: Vec<(u64, Refusal)>,
     replies: &[(u64, Outcome)],
@@ -146,7 +147,7 @@ fn tell_refused<T: Watch>(refused: &[(u64, Refusal)], watch: &mut T) {
     }
 }
 
-/// Writes the refused jobs, and the list of each desk. Says whether something written was a refusal.
+/// Writes the refused jobs, and the list of each desk. Returns whether anything written was a refusal.
 fn write_ended<W: Write, T: Watch>(
     alloc: Global,
     writer: &mut W,
@@ -192,8 +193,8 @@ fn append_job(output: &mut Vec<u8>, number: u64, refusal: Refusal) -> Result<(),
     output.extend_from_slice(line.as_bytes())
 }
 
-/// Writes the list of a desk, or that it has too many rows; then it gives the to-do that has the most of them. What is written is put
-/// behind the octets that are kept for it, and no list is held as a whole.
+/// Writes the list of a desk, or the refusal that it has too many rows; in that case returns the to-do that has the most of them. What is
+/// written follows the bytes in `kept`, which wait to be written. No list is held as a whole.
 fn write_list<W: Write>(
     number: u64,
     desk: &Desk,

@@ -10,8 +10,8 @@ use itip_script::{JobCommand, JobCommands};
 use itip_view::Window;
 use std::alloc::{AllocError, Global};
 
-/// The jobs of a script, and the numbers of the commands that are none, each with its refusal. Both are in the order of the commands, which
-/// are numbered from 0.
+/// The jobs of a script, and the numbers of the commands that are no jobs, each with its refusal. Both are in the order of the commands,
+/// which are numbered from 0.
 #[derive(Drop)]
 pub(crate) struct ScriptJobs {
     pub(crate) jobs: Vec<Job>,
@@ -19,7 +19,7 @@ pub(crate) struct ScriptJobs {
 }
 
 impl ScriptJobs {
-    /// Adds the next command: a job that asks for this, or one of the others.
+    /// Adds the next command: a job that asks for `work`, or one of the others if there is none.
     fn add(&mut self, work: Option<Work>) -> Result<(), AllocError>
         ensures jobs { OnOk result (self.new.jobs.items ≡ self.old.jobs.items
             ++ onto_jobs (length self.old.jobs.items + length self.old.others.items) work []) }
@@ -35,7 +35,7 @@ impl ScriptJobs {
     }
 }
 
-/// The jobs of a script. Looks are in this window.
+/// The jobs of a script, with their looks in this window.
 pub(crate) fn script_jobs(
     alloc: Global,
     script: &[u8],

@@ -13,7 +13,7 @@ use itip_running::{Pass, PassError};
 use itip_view::Window;
 use std::marker::{Model, PhantomData};
 
-/// A pass of a desk, whose type says of which pair it is. Contracts see the number of the desk, and the batches that the pass has seen.
+/// A pass of a desk, whose type says which pair it belongs to. Contracts see the number of the desk and the batches that the pass has seen.
 #[derive(Drop)]
 pub struct Seat<N: Pairs> {
     desk: u64,
@@ -38,7 +38,7 @@ impl<N: Pairs> Model for Seat<N> {
 }
 
 impl<N: Pairs> Seat<N> {
-    /// This pass, which is of the desk of this number.
+    /// A seat with this pass, which is one of the desk with this number.
     pub fn new(desk: u64, pass: Pass) -> Seat<N>
         requires pair { pass_pair pass ≡ N.pair desk }
         ensures { result ≡ (desk, seen pass) }
@@ -50,7 +50,7 @@ impl<N: Pairs> Seat<N> {
         }
     }
 
-    /// The text of the list of its desk in a window, and of what it is the list.
+    /// The text of the list of its desk in a window, and what it is a list of.
     pub(crate) fn list(&mut self, window: Window) -> (Result<Vec<u8>, PassError>, Source<N>)
         ensures text { IfOk result.0 (λ text. IsListText (heard result.1.1) window text.items) }
         ensures many { IsErrOf result.0 PassError.TooManyRows → AreTooMany (heard result.1.1) window }
@@ -60,7 +60,7 @@ impl<N: Pairs> Seat<N> {
         (text, source)
     }
 
-    /// All that its desk keeps, and of what.
+    /// All that its desk keeps, and what it was made of.
     pub(crate) fn all(&mut self) -> (Result<Batch, PassError>, Source<N>)
         ensures all { IfOk result.0 (λ batch. IsDeltaAfter result.1.1 0 batch) }
         ensures causes { IfErr result.0 (λ e. (e ≡ PassError.NoMemory) ⊎ (e ≡ PassError.NoEntry)) }

@@ -8,7 +8,7 @@ use itip_running::{Keeper, Receipt};
 use std::alloc::AllocError;
 use std::marker::{Model, PhantomData};
 
-/// What a pass of a desk had seen when a job looked or carried. Contracts see the number of the desk, and the batches.
+/// What a pass of a desk had seen when a job looked or carried. Contracts see the number of the desk and the batches.
 #[derive(Drop)]
 pub struct Source<N: Pairs> {
     desk: u64,
@@ -33,7 +33,7 @@ impl<N: Pairs> Model for Source<N> {
 }
 
 impl<N: Pairs> Source<N> {
-    /// What the receipt tells, which is of the desk of this number.
+    /// What a receipt of the desk with this number tells.
     pub(crate) fn new(desk: u64, receipt: Receipt) -> Source<N>
         requires pair { receipt_pair receipt ≡ N.pair desk }
         ensures source { result ≡ (desk, told receipt) }
@@ -51,7 +51,7 @@ impl<N: Pairs> Source<N> {
         self.desk
     }
 
-    /// Whether all of it is published by the keeper of its desk. It is, in every run.
+    /// Whether the keeper of its desk has published all of it. In every run it has.
     pub(crate) fn is_published(&self, keeper: &Keeper) -> bool
         requires pair { keeper_pair keeper.now ≡ N.pair self.now.0 }
         ensures { IsTrue result → IsPrefix self.now.1 (published keeper.now) }
@@ -60,7 +60,7 @@ impl<N: Pairs> Source<N> {
     }
 }
 
-/// Puts a source behind these, where there is one.
+/// Appends a source, if there is one.
 pub(crate) fn push_some<N: Pairs>(
     all: &mut Vec<Source<N>>,
     one: Option<Source<N>>,

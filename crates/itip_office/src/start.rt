@@ -11,7 +11,7 @@ use itip_running::{LiveError, Pass, start_desk};
 use std::alloc::AllocError;
 use std::sync::Wait;
 
-/// The number of a desk, what its keeper is to own, and the passes of its running desk, one for each worker, where it is read.
+/// The number of a desk, what its keeper is to own and, if the desk is read, the passes of its running desk, one for each worker.
 #[derive(Drop)]
 pub(crate) struct Started<R: AllocGlobal + Wait + Copy> {
     pub(crate) desk: u64,
@@ -19,8 +19,8 @@ pub(crate) struct Started<R: AllocGlobal + Wait + Copy> {
     pub(crate) passes: Vec<Pass>,
 }
 
-/// So many desks, in order, with passes for so many workers where they are read. Where they are not, a desk is there as often as there are
-/// workers for it, and all are there once before one is there again.
+/// Starts `desks` desks, in order, with passes for `workers` workers if they are read. If they are not, each desk appears as often as there
+/// are workers for it, at least once, and all desks appear once before one appears again.
 pub(crate) fn start_desks<R: AllocGlobal + Wait + Copy>(
     rt: &R,
     desks: usize,
@@ -38,7 +38,7 @@ pub(crate) fn start_desks<R: AllocGlobal + Wait + Copy>(
     Ok(unread_desks(rt, desks, shares(desks, workers))?)
 }
 
-// How many keepers a desk has: as many as there are workers for it.
+// How many keepers a desk has: as many as there are workers for it, and at least one.
 fn shares(desks: usize, workers: usize) -> usize {
     if desks == 0 || workers < desks {
         return 1;
@@ -120,7 +120,7 @@ fn unread_desk<R: AllocGlobal + Wait + Copy>(rt: &R, desk: u64) -> Started<R>
     }
 }
 
-/// Why an office ends, where a running desk refused.
+/// Why an office ends if a running desk refuses.
 pub(crate) fn live_error(refused: LiveError) -> OfficeError
     ensures { AreNoLoops result }
 {

@@ -28,7 +28,7 @@ use std::sync::{Arc, Wait};
 use std::thread;
 use std::thread::{Promise, PromisedHandle, Threads};
 
-/// What the thread of a keeper returns: for which desk it merged, what it owns, and the jobs that it merged, with their outcomes.
+/// What the thread of a keeper returns: the desk that it merged for, what it owns, and the jobs that it merged, with their outcomes.
 #[derive(Drop)]
 pub(crate) struct Merged<R: AllocGlobal + Wait + Copy> {
     pub(crate) desk: u64,
@@ -36,7 +36,8 @@ pub(crate) struct Merged<R: AllocGlobal + Wait + Copy> {
     pub(crate) answers: Vec<(Job, Outcome)>,
 }
 
-/// That a keeper has a desk of the texts that it answers, and published the batches of all that it answers, under a gate of this type.
+/// The promise that a keeper has a desk of the texts that it answers, and published the batches of all that it answers, under a gate of
+/// this type.
 #[derive(Drop)]
 pub(crate) struct OfTexts<G: Gate> {
     gate: PhantomData<G>,
@@ -51,7 +52,7 @@ impl<N: Pairs, R: AllocGlobal + Wait + Copy, G: Gate> Promise<
         kept.0.held.texts kept.0.held.shown) × (IsErrOf r OfficeError.GateClosed → G.may_close) };
 }
 
-/// That a worker answers for so many desks, under a gate of this type.
+/// The promise that a worker answers for `desks` desks, under a gate of this type.
 #[derive(Drop)]
 pub(crate) struct OfDesks<G: Gate> {
     desks: usize,
@@ -76,7 +77,7 @@ type WorkerThread<N, G> = PromisedHandle<
     OfDesks<G>,
 >;
 
-/// The threads that were made. It can't be let go: whoever has it has to join them.
+/// The threads that were made. A team can't be dropped: whoever has it has to join them.
 pub(crate) struct Team<N: Pairs, R: AllocGlobal + Wait + Copy, G: Gate> {
     keepers: Vec<KeeperThread<N, R, G>>,
     workers: Vec<WorkerThread<N, G>>,
@@ -97,17 +98,17 @@ struct Joined<N: Pairs, R: AllocGlobal + Wait + Copy> {
     carried: Vec<Source<N>>,
 }
 
-// What a worker works with: a way to each keeper, and a seat at each desk where jobs look or carry.
+// What a worker works with: a sender to each keeper and, if jobs look or carry, a seat at each desk.
 #[derive(Drop)]
 struct Bench<N: Pairs> {
     seats: Vec<Seat<N>>,
     keepers: Vec<Sender<Vec<Merge<N>>>>,
 }
 
-/// Runs the jobs on threads, one for each worker and one for each keeper, and joins them all, whatever they answer.
+/// Runs the jobs on threads, one for each worker and one for each keeper, and joins them all, whatever they return.
 ///
-/// Where no job looks or carries, a desk has as many keepers as there are workers for each desk, and at least one. Its texts are divided
-/// among them by UID: one alone would be slower than those who read.
+/// If no job looks or carries, a desk has as many keepers as there are workers for each desk, and at least one. Its texts are divided
+/// among them by UID: a single keeper would be slower than the workers that read.
 pub(crate) fn run_team<
     R: AllocGlobal + Threads + Wait + Copy + Send + Sync + 'static,
     G: Gate + Send + Sync + Drop + 'static,
@@ -125,7 +126,7 @@ pub(crate) fn run_team<
     run_started::<Brand, R, G>(rt, desks, workers, started, jobs, gate)
 }
 
-// The same of desks that are started, each with the pair that the type names.
+// The same, given desks that are started, each with the pair that the type names.
 fn run_started<
     N: Pairs + Send + Sync + 'static,
     R: AllocGlobal + Threads + Wait + Copy + Send + Sync + 'static,
@@ -160,7 +161,7 @@ fn run_started<
 }
 
 impl<N: Pairs, R: AllocGlobal + Wait + Copy> Joined<N, R> {
-    // What the threads returned, where all that looks and carries had seen is published. It is, in every run; else 44.
+    // What the threads returned. Fails with 44 if something that looks or carries had seen is not published, which happens in no run.
     fn checked(self) -> Result<Done<R>, OfficeError>
         requires pairs { All (λ k. IsOfPair (N.pair k.desk) k.held.shown) self.done.kept.items }
         ensures done { IfOk result (λ done. done ≡ self.done) }
@@ -198,7 +199,7 @@ fn are_published<N: Pairs, R: AllocGlobal + Wait + Copy>(
     true
 }
 
-// Whether the keeper of its desk has published all of it.
+// Whether the keeper of its desk has published all of a source.
 fn is_published<N: Pairs, R: AllocGlobal + Wait + Copy>(
     kept: &[Merged<R>],
     source: &Source<N>,
@@ -226,7 +227,7 @@ impl<
     R: AllocGlobal + Threads + Wait + Copy + Send + Sync + 'static,
     G: Gate + Send + Sync + Drop + 'static,
 > Team<N, R, G> {
-    // No thread, and room for so many.
+    // No threads yet, and room for this many.
     fn new(alloc: Global, keepers: usize, workers: usize) -> Result<Team<N, R, G>, AllocError>
         ensures none { IfOk result (λ team. team.workers.items ≡ []) }
     {
@@ -235,7 +236,7 @@ impl<
         Ok(Team { keepers, workers })
     }
 
-    // Makes the threads. The ends of channels that no thread got are dropped, so that those that were made return.
+    // Makes the threads. The ends of channels that no thread got are dropped, so that the threads that were made return.
     fn start(
         &mut self,
         rt: &R,
@@ -255,7 +256,7 @@ impl<
         self.start_threads(rt, desks, workers, started, &jobs, &gate)
     }
 
-    // The same with the gate and a channel of the jobs.
+    // The same, given the gate and a channel with the jobs.
     fn start_threads(
         &mut self,
         rt: &R,
@@ -275,7 +276,7 @@ impl<
         self.start_workers(rt, desks, benches, jobs, gate)
     }
 
-    // One keeper for each that is started.
+    // Makes one keeper for each desk that is started.
     fn start_keepers(
         &mut self,
         rt: &R,
@@ -357,7 +358,7 @@ fn start_keeper<
     keeper_thread(rt, desk, held, merges, Arc::try_clone(gate)?)
 }
 
-// The end of a channel for the keeper of a desk, to whom each worker has a way then, and a seat at the desk by one of its passes.
+// A channel to the keeper of a desk. Returns its receiver; each worker gets a sender and, by one of the passes, a seat at the desk.
 fn way<N: Pairs>(
     alloc: Global,
     desk: u64,
@@ -373,7 +374,7 @@ fn way<N: Pairs>(
     Ok(merges)
 }
 
-// Seats at a desk, by its passes.
+// A seat at a desk for each of its passes.
 fn seats<N: Pairs>(alloc: Global, desk: u64, passes: Vec<Pass>) -> Result<Vec<Seat<N>>, AllocError>
     requires pair { All (λ p. pass_pair p ≡ N.pair desk) passes.items }
 {
@@ -401,7 +402,7 @@ fn start_worker<
     worker_thread(rt, desks, bench, jobs.clone()?, Arc::try_clone(gate)?)
 }
 
-// A channel with all jobs in it, and nobody who sends more. Its receiver is here, so a send is refused for want of memory alone.
+// A channel with all jobs in it and no sender left. Its receiver is held here, so a send can fail only for lack of memory.
 fn queue<R: AllocGlobal + Wait>(rt: &R, jobs: Vec<Job>) -> Result<Receiver<Job>, OfficeError>
     ensures { IfErr result (λ e. e ≡ OfficeError.NoMemory) }
 {
@@ -425,7 +426,7 @@ fn benches<N: Pairs>(alloc: Global, workers: usize) -> Result<Vec<Bench<N>>, All
     Ok(all)
 }
 
-// Gives each worker a way to the keeper of a desk, and a seat at the desk where there are seats.
+// Gives each worker a sender to the keeper of a desk and, as far as there are seats, a seat at the desk.
 fn seat<N: Pairs>(
     benches: &mut [Bench<N>],
     seats: Vec<Seat<N>>,

@@ -1,15 +1,15 @@
-//! Who is told what an office refused.
+//! The watch, which is told what an office refused.
 
 use itip_desk::Refusal;
 use itip_view::MostRows;
 
-/// What is told of a script's jobs beside the output: the jobs that are refused, in the order of their numbers, and then the lists, in the
+/// Receives the refusals of a script, in addition to the output: those of jobs, in the order of their numbers, then those of lists, in the
 /// order of desks. Nothing that is read or written depends on it.
 pub trait Watch {
-    /// The job of this number was refused.
+    /// The job with this number was refused.
     fn refused_job(&mut self, number: u64, refusal: Refusal);
 
-    /// The list of the desk of this number was refused: it has too many rows, and this to-do has the most of them.
+    /// The list of the desk with this number was refused: it has too many rows, and `most` is the to-do that has the most of them.
     fn too_many_rows(&mut self, desk: u64, most: &MostRows);
 
     /// The script was refused as a whole.

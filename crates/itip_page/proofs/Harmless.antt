@@ -8,7 +8,7 @@ use Rattle.itip_page.specs.Tokens.{IsHarmless}
 use Rattle.itip_page.proofs.Shown.{IsShown, visible_shown}
 use Rattle.itip_page.proofs.Taken.{Kind, Ampersand, Less, Greater, Quote, Plain, kind_of, plain_markup}
 
--- the letters of a reference, its ampersand and its semicolon
+-- an octet as the letters of a reference, its ampersand and its semicolon are
 pub record IsOfReference (octet : ℕ) : Type 0 where
   pub from : 38 ≤ octet
   pub no_less : octet ≡ 60 → ⊥

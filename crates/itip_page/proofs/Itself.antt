@@ -1,4 +1,4 @@
--- Octets that a parser takes for themselves, in an element as in an attribute value: all but the ampersand, `<`, the quote, the null
+-- Octets that a parser takes as themselves, in an element as in an attribute value: all but the ampersand, `<`, the quote, the null
 -- and the carriage return. Numbers, days and words have no others.
 use Rattle.std.proofs.Common.{◌≡◌, ℕ, zero, suc, ◌+◌, ◌/◌, ◌%◌, ◌<◌, Bool, true, false, cond, not, ◌&&◌, ◌==◌, List, [], ◌∷◌, ◌++◌}
 use Rattle.std.proofs.Common.{refl, ap, sym, ◌∙◌, arith, codes, ℤ, pos, neg_ℤ, ◌-ℤ◌}
@@ -36,7 +36,7 @@ itself octet ampersand less quote null carriage =
     (not_from_false _ (ne_eqb octet 0 null)))
     (not_from_false _ (ne_eqb octet 13 carriage))
 
--- it is no octet of which the test says otherwise
+-- such an octet differs from each that fails the test
 pub differs : (octet other : ℕ) → is_itself octet ≡ true → is_itself other ≡ false → octet ≢ other
 differs octet other so fails = λ e. true≢false (sym so ∙ ap is_itself e ∙ fails)
 

@@ -7,17 +7,17 @@ use Rattle.itip_page.specs.Value.{Lines, behind, broken, lines_of, lines_markup,
 use Rattle.itip_page.specs.declared.value.Shown.{Shown}
 use Rattle.itip_page.specs.declared.value.Shown.TheVariants.{Octet, LineBreak}
 
--- the lines behind the first, each behind the tag of a break
+-- the lines after the first, each after the tag of a break
 abbrev others_markup : List (List ℕ) → List ℕ
 others_markup lines = flat_map (λ line. codes "<br>" ++ escaped line) lines
 
--- an octet behind the line, or in front of what is left
+-- an octet at the end of the line, or before what is left
 octet_moves : (line : List ℕ) (octet : ℕ) (lines : Lines) →
     lines_markup (behind (line ++ octet ∷ []) lines) ≡ lines_markup (behind line (behind (octet ∷ []) lines))
 octet_moves line octet lines =
     ap (λ (first : List ℕ). escaped first ++ others_markup lines.others) (append_assoc line (octet ∷ []) lines.first)
 
--- a line and its end behind the page, or in front of what is left
+-- a line and its end at the end of the page, or before what is left
 break_moves : (page line : List ℕ) (lines : Lines) →
     (page ++ (escaped line ++ codes "<br>")) ++ lines_markup (behind [] lines) ≡ page ++ lines_markup (behind line (broken lines))
 break_moves page line lines =
@@ -27,7 +27,7 @@ break_moves page line lines =
     ap (λ (t : List ℕ). escaped line ++ t) (sym (append_assoc (codes "<br>") (escaped lines.first) (others_markup lines.others))) ∙
     ap (λ (t : List ℕ). escaped t ++ ((codes "<br>" ++ escaped lines.first) ++ others_markup lines.others)) (sym (append-nil line)))
 
--- What a value shows next goes behind the page and the line: these and what is left are the same markup.
+-- What a value shows next is appended to the line or the page: these and what is left are the same markup.
 pub line_moves : (shown : Shown) (page grown line longer value after : List ℕ) → PutsNext shown page grown line longer →
     IsNext value shown after →
     grown ++ lines_markup (behind longer (lines_of after)) ≡ page ++ lines_markup (behind line (lines_of value))

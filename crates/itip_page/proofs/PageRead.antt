@@ -1,4 +1,4 @@
--- What a parser takes a page for.
+-- What a parser reads a page as.
 use Rattle.std.proofs.Common.{◌≡◌, ℕ, true, List, [], ◌∷◌, ◌++◌, refl, ap, length}
 use Rattle.std.specs.Prelude.{codes, ℤ, Some}
 use Rattle.std.specs.List.{flat_map, list_all}
@@ -132,7 +132,7 @@ after_body = end_tag (codes "body") ∷ []
 abbrev after_html : List Token
 after_html = end_tag (codes "html") ∷ []
 
--- behind the rows
+-- after the rows
 abbrev closing_tokens : List Token
 closing_tokens =
     after_rows ++ (line_end ++ (after_table ++ (line_end ++ (after_body ++ (line_end ++ (after_html ++ line_end))))))

@@ -10,7 +10,7 @@ abbrev pub joined : Pieces → List Token
 joined (piece given) = given
 joined (both front back) = joined front ++ joined back
 
--- the same, each in front of all that stands behind it
+-- the same, each before all that follows it
 abbrev pub onto : Pieces → List Token → List Token
 onto (piece given) rest = given ++ rest
 onto (both front back) rest = onto front (onto back rest)

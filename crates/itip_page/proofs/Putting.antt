@@ -1,4 +1,4 @@
--- Pieces that are put behind a page, one behind the other.
+-- Pieces that are appended to a page, one after another.
 use Rattle.std.proofs.Common.{◌≡◌, ℕ, ◌+◌, ◌<◌, cond, List, [], ◌++◌, length, take, get_or, ap, sym, ◌∙◌, Ok, Err, Result}
 use Rattle.std.specs.Prelude.{OnOk, is_ok}
 use Rattle.std.specs.List.{flat_map}
@@ -25,7 +25,7 @@ made_apart (Ok u) old new slice made empty piece puts is made_is none =
     puts ∙ ap (λ (t : List ℕ). old ++ t) (is ∙ made_is ∙ ap (λ (t : List ℕ). t ++ piece) none)
 made_apart (Err x) old new slice made empty piece puts is made_is none = tt
 
--- the piece of one octet more
+-- the piece of one more octet
 pub octet_more : (f : ℕ → List ℕ) (octets : List ℕ) (i : ℕ) (old page new : List ℕ) → i < length octets →
     page ≡ old ++ flat_map f (take i octets) → new ≡ page ++ f (get_or octets i 0) →
     new ≡ old ++ flat_map f (take (i + 1) octets)

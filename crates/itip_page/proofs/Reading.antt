@@ -1,4 +1,4 @@
--- Sources that a parser reads one behind the other.
+-- Sources that a parser reads one after another.
 use Rattle.std.proofs.Common.{◌≡◌, ℕ, true, List, [], ◌∷◌, ◌++◌, refl, ap, sym, subst, ◌∙◌, append_assoc, append-nil}
 use Rattle.std.specs.Prelude.{Option, Some, None, option_map}
 use Rattle.std.specs.List.{flat_map, list_all}
@@ -10,7 +10,7 @@ use Rattle.itip_page.specs.Tokens.{given_before, IsReadAs}
 use Rattle.itip_page.specs.PageTokens.{characters, is_of_page}
 use Rattle.itip_page.proofs.Itself.{is_itself, differs}
 
--- ---- one source behind another
+-- ---- one source after another
 
 given_none : (o : Option Reached) → option_map (given_before []) o ≡ o
 given_none None = refl
@@ -22,7 +22,7 @@ given_twice front back None = refl
 given_twice front back (Some last) =
     ap (λ (given : List Token). Some (ran last.state given)) (sym (append_assoc front back last.given))
 
--- what a source gives behind a run
+-- what a source gives after a run
 abbrev onwards : List ℕ → Reached → Option Reached
 onwards source next = option_map (given_before next.given) (run next.state source)
 
@@ -46,7 +46,7 @@ run-append (octet ∷ source) more state = stepped source more (λ (s : State). 
 
 -- ---- sources as tokens of a page
 
--- In this state a source is read as these tokens, whose names are a page's, and behind it the state is that one.
+-- In this state a source is read as these tokens, whose names are a page's, and after it the state is that one.
 pub record Reads (before : State) (source : List ℕ) (given : List Token) (after : State) : Type 0 where
   pub read : IsReadAs before source given after
   pub known : list_all is_of_page given ≡ true
@@ -80,7 +80,7 @@ module _ {X : Type 0} (f : X → List ℕ) (g : X → List Token) (state : State
   each_reads [] = nothing state
   each_reads (x ∷ xs) = let reads = then_reads (each x) (each_reads xs) in reads
 
--- ---- octets that are taken for themselves
+-- ---- octets that are taken as themselves
 
 pub characters_known : (text : List ℕ) → list_all is_of_page (characters text) ≡ true
 characters_known [] = refl

@@ -1,4 +1,4 @@
--- What a parser takes a row of the table for.
+-- What a parser reads a row of the table as.
 use Rattle.std.proofs.Common.{◌≡◌, ℕ, Bool, true, false, List, [], ◌∷◌, ◌++◌, refl, ap, sym, append_assoc}
 use Rattle.std.specs.Prelude.{codes, ℤ, Option, Some, None}
 use Rattle.std.specs.Fmt.{decimal}

@@ -18,7 +18,7 @@ pub record IsShown (octet : ℕ) : Type 0 where
 digit_shown : (d : ℕ) → d < 16 → IsShown (digit_char d)
 digit_shown d small = record { no_control = grind (arith, nat_tests); no_delete = λ e. absurd (grind (arith, nat_tests)) }
 
--- an octet that is hidden is one of an octet's range
+-- an octet that is hidden is in the range of octets
 small_if_hidden : (before octet : ℕ) (after : List ℕ) → is_hidden false before octet after ≡ true → octet < 256
 small_if_hidden before octet after hidden = elim (leb_tells (suc octet) 256) [
   | inl small ↦ omega (arith, small.1)

@@ -1,4 +1,4 @@
--- What a parser takes an escaped text for.
+-- What a parser reads an escaped text as.
 use Rattle.std.proofs.Common.{◌≡◌, ℕ, true, List, [], ◌∷◌, ◌++◌, refl, subst, sym, inl, inr, arith, append_assoc, append-nil}
 use Rattle.std.specs.Prelude.{◌≢◌, codes}
 use Rattle.std.specs.List.{All, flat_map}
@@ -117,7 +117,7 @@ value_read value = lines_read (lines_of value)
 -- ---- in an attribute value
 
 module _ (tag : Tag) (name : List ℕ) where
-  -- an octet more of the value
+  -- one more octet of the value
   abbrev Grows : List ℕ → ℕ → Type 0
   Grows value octet =
       Reads (attribute_value tag name value) (octet_markup octet) [] (attribute_value tag name (value ++ octet ∷ []))

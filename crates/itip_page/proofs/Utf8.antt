@@ -1,4 +1,4 @@
--- An escaped text is in UTF-8.
+-- An escaped text is UTF-8.
 use Rattle.std.proofs.Common.{◌≡◌, ℕ, suc, ◌≤◌, ◌<◌, true, List, [], ◌∷◌, inl, inr, arith, lit<, refl, sym, subst}
 use Rattle.std.specs.Prelude.{codes}
 use Rattle.std.specs.List.{AllByRecursion, flat_map}

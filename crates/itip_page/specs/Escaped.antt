@@ -1,4 +1,4 @@
--- Texts of messages as they stand in a page (our own form).
+-- Texts of messages as a page has them (our own form).
 use Rattle.std.specs.Prelude.{ℕ, ◌==◌, List, [], ◌∷◌, codes, if◌then◌else◌}
 use Rattle.std.specs.List.{flat_map}
 use Rattle.itip_streams.specs.Visible.{visible}
@@ -11,6 +11,6 @@ octet_markup octet =
     else (if octet == 62 then codes "&gt;"
     else (if octet == 34 then codes "&quot;" else octet ∷ [])))
 
--- The text with its control characters as octets, and then each octet so.
+-- The text with its control characters shown as bytes, and each octet of that as above.
 abbrev pub escaped : List ℕ → List ℕ
 escaped text = flat_map octet_markup (visible text)

@@ -9,7 +9,7 @@ use Rattle.itip_page.specs.RowMarkup.{row_markup}
 use Rattle.itip_page.specs.declared.frame.TheConstants.{OPENING, COLUMNS, CLOSING}
 use Rattle.itip_page.specs.declared.style.TheConstants.{STYLE}
 
--- the day of a number, or the nearest of the years 0000 to 9999
+-- the day of a number, or the nearest one in the years 0000 to 9999
 abbrev pub nearest : ℤ → ℤ
 nearest day =
     if int_lt day (neg_ℤ (pos 719_528)) then neg_ℤ (pos 719_528) else (if int_lt (pos 2_932_896) day then pos 2_932_896 else day)
@@ -31,13 +31,13 @@ count_text number = if number == 1 then codes "1 row." else decimal number ++ co
 abbrev pub counted_markup : ℤ → ℕ → List ℕ
 counted_markup today number = codes "<p>" ++ (count_text number ++ (codes " Today is " ++ (day_text today ++ codes ".</p>\n")))
 
--- what stands before so many rows
+-- what comes before this number of rows
 abbrev pub head_markup : Window → ℤ → ℕ → List ℕ
 head_markup window today number = title_markup window ++ (heading_markup window ++ (counted_markup today number ++ COLUMNS.now))
 
 abbrev pub foot_markup : List ℕ
 foot_markup = CLOSING.now
 
--- all of it: nothing but the window, the day and the rows is in it
+-- the whole page, which has nothing but the window, the day and the rows in it
 abbrev pub page_markup : Window → ℤ → List Row → List ℕ
 page_markup window today rows = head_markup window today (length rows) ++ (flat_map (row_markup today) rows ++ foot_markup)

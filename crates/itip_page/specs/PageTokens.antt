@@ -1,5 +1,5 @@
 -- The elements of a page, each in its place, and the texts in them, as tokens (our own form). Each text of a message is there as its
--- characters, or as the value of a `title`; the characters are those of the text with its control characters as octets.
+-- characters, or as the value of a `title`; the characters are those of the text with its control characters shown as bytes.
 use Rattle.std.specs.Prelude.{ℕ, ℤ, Bool, true, false, not, ◌&&◌, ◌||◌, nat_eq, List, [], ◌∷◌, ◌++◌, codes, map, length, Option, Some, None}
 use Rattle.std.specs.Char.{to_ascii_lowercase}
 use Rattle.std.specs.Fmt.{decimal}
@@ -35,7 +35,7 @@ line_end = characters (10 ∷ [])
 abbrev pub attribute : List ℕ → List ℕ → Attribute
 attribute name value = record { name = name; value = value }
 
--- a start tag, what stands in the element, and its end tag
+-- a start tag, the content of the element, and its end tag
 abbrev pub element : List ℕ → List Attribute → List Token → List Token
 element name attributes content = start_tag name attributes ∷ (content ++ end_tag name ∷ [])
 
@@ -46,11 +46,11 @@ void name attributes = start_tag name attributes ∷ []
 abbrev pub small : List Token → List Token
 small content = characters (codes " ") ++ element (codes "small") [] content
 
--- a text of a message, whose direction moves nothing beside it
+-- a text of a message, whose direction moves nothing next to it
 abbrev pub isolated : List ℕ → List Token
 isolated text = element (codes "bdi") [] (shown text)
 
--- ---- a value of type TEXT: its lines, and between two of them a line break
+-- ---- a value of type TEXT: its lines, with a line break between each two
 
 abbrev pub lines_tokens : Lines → List Token
 lines_tokens lines = shown lines.first ++ flat_map (λ line. start_tag (codes "br") [] ∷ shown line) lines.others
@@ -144,7 +144,7 @@ row_tokens today row =
 abbrev pub style_sheet : List ℕ
 style_sheet = STYLE.now
 
--- The text is long, so no proof opens it where it needn't.
+-- The text is long, so proofs open it only where they have to.
 unfoldable pub style_text : List Token
 style_text = characters style_sheet
 
@@ -161,7 +161,7 @@ meta_tokens =
     (attribute (codes "http-equiv") (codes "Content-Security-Policy") ∷ attribute (codes "content") policy ∷ [])
     ++ line_end))))
 
--- of the days of the window
+-- the head, from the days of the window and the style
 abbrev pub head_tokens : List Token → List Token → List Token
 head_tokens days style =
     element (codes "head") [] (line_end ++ (meta_tokens
@@ -183,7 +183,7 @@ table_tokens rows =
     ++ (element (codes "tr") [] (line_end ++ flat_map column column_names) ++ line_end))
     ++ (line_end ++ (element (codes "tbody") [] (line_end ++ rows) ++ line_end))))
 
--- of the days of the window, how many rows there are, today, and the rows
+-- the body, from the days of the window, how many rows there are, today, and the rows
 abbrev pub body_tokens : List Token → List Token → List Token → List Token → List Token
 body_tokens days count today rows =
     element (codes "body") [] (line_end
@@ -199,13 +199,13 @@ document_tokens days style count today rows =
     doctype ∷ (line_end ++ (element (codes "html") (attribute (codes "lang") (codes "en") ∷ [])
     (line_end ++ (head_tokens days style ++ (line_end ++ (body_tokens days count today rows ++ line_end)))) ++ line_end))
 
--- of a window, the day of this number, and the rows
+-- the tokens of the page of a window, the day of this number, and the rows
 abbrev pub page_tokens : Window → ℤ → List Row → List Token
 page_tokens window today rows =
     document_tokens (characters (days_text window)) style_text (characters (count_text (length rows))) (characters (day_text today))
     (flat_map (row_tokens today) rows)
 
--- ---- what a page has not
+-- ---- what a page doesn't have
 
 -- The attributes of a page: none fetches anything, and none is run.
 abbrev pub attribute_names : List (List ℕ)
@@ -213,7 +213,7 @@ attribute_names =
     codes "lang" ∷ codes "charset" ∷ codes "name" ∷ codes "content" ∷ codes "http-equiv" ∷ codes "scope" ∷ codes "title" ∷ codes "class"
     ∷ codes "style" ∷ []
 
--- its elements and attributes are of these names
+-- its elements and attributes have these names
 abbrev pub is_of_page : Token → Bool
 is_of_page doctype = true
 is_of_page (start_tag name attributes) =
@@ -221,18 +221,18 @@ is_of_page (start_tag name attributes) =
 is_of_page (end_tag name) = is_among element_names name
 is_of_page (character octet) = true
 
--- a text has this word in it somewhere
+-- a text contains this word
 abbrev pub has_word : List ℕ → List ℕ → Bool
 has_word word [] = false
 has_word word (octet ∷ text) = starts_with nat_eq (octet ∷ text) word || has_word word text
 
--- Words by which a style sheet fetches or runs something, in lower case, and the backslash, by which a word can be written otherwise
--- (CSS Syntax Level 3: `url` and escapes; CSS Values Level 4: `src`; CSS Cascading and Inheritance: `@import`; CSS Images: `image` and
--- `image-set`; `expression` of old browsers).
+-- Words with which a style sheet fetches or runs something, in lower case, and the backslash, with which a word can be spelled another
+-- way (CSS Syntax Level 3: `url` and escapes; CSS Values Level 4: `src`; CSS Cascading and Inheritance: `@import`; CSS Images: `image`
+-- and `image-set`; `expression` of old browsers).
 abbrev pub fetching_words : List (List ℕ)
 fetching_words =
     codes "url" ∷ codes "src" ∷ codes "import" ∷ codes "image" ∷ codes "expression" ∷ (92 ∷ []) ∷ []
 
--- a style sheet has none of them, in whatever case
+-- a style sheet has none of them, in any case
 abbrev pub fetches_nothing : List ℕ → Bool
 fetches_nothing sheet = list_all (λ (word : List ℕ). not (has_word word (map to_ascii_lowercase sheet))) fetching_words

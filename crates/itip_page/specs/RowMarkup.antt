@@ -26,7 +26,7 @@ abbrev pub named : List ℕ → List ℕ → List ℕ
 named [] uid = uid
 named (octet ∷ octets) uid = octet ∷ octets
 
--- or of an absent one
+-- or in place of an absent one
 abbrev pub name_of : Option (List ℕ) → List ℕ → List ℕ
 name_of None uid = uid
 name_of (Some summary) uid = named summary uid
@@ -35,7 +35,7 @@ name_of (Some summary) uid = named summary uid
 abbrev pub name_markup : Row → List ℕ
 name_markup row = value_markup (name_of row.summary row.uid)
 
--- in an attribute the UID stands as it is
+-- in the attribute the UID is not read as a value
 abbrev pub name_cell : Row → List ℕ
 name_cell row =
     codes "<th scope=\"row\" title=\"" ++ (escaped row.uid ++ (codes "\"><bdi>" ++ (name_markup row ++ codes "</bdi></th>")))
@@ -100,7 +100,7 @@ progress_cell row = codes "<td>" ++ (bar_markup row.progress ++ (own_markup row.
 
 -- ---- who
 
--- an address without `mailto:` before it, in whatever case; any other as it is
+-- an address without its `mailto:`, which may be in any case; any other address as it is
 abbrev pub bare_address : List ℕ → List ℕ
 bare_address address =
     if pointwise nat_eq (map to_ascii_lowercase (take 7 address)) (codes "mailto:") then drop 7 address else address

@@ -1,8 +1,8 @@
 -- What an HTML parser's tokenizer makes of a document (HTML Standard 13.2.5), in the forms that a page has: elements of some names,
--- attributes in double quotes, four references, the text of a title and of a style. Of any other form nothing is said, and the
--- document has no tokens here, though a parser makes something of it: a comment, a script, a value in other quotes or in none, a
--- name in upper case, a tag that closes itself, an attribute that stands twice.
--- Octets from 128 on are of characters that mean nothing in any of these states, so all is said of octets.
+-- attributes in double quotes, four references, the text of a title and of a style. Nothing is said of any other form, and a document
+-- that has one has no tokens here, though a parser makes something of it: a comment, a script, a value in other quotes or in none, a
+-- name in upper case, a tag that closes itself, an attribute that appears twice.
+-- Octets from 128 on belong to characters that mean nothing in any of these states, so everything is said in terms of octets.
 use Rattle.std.specs.Prelude.{◌≡◌, ◌≢◌, ◌≤◌, ℕ, Bool, ◌&&◌, ◌||◌, ◌==◌, nat_eq, nat_le, List, [], ◌∷◌, ◌++◌, codes, map}
 use Rattle.std.specs.Prelude.{Option, Some, None, option_map, if◌then◌else◌}
 use Rattle.std.specs.Cmp.Lexicographic.{pointwise}
@@ -15,7 +15,7 @@ pub record Attribute : Type 0 where
   pub name : List ℕ
   pub value : List ℕ
 
--- A parser gives out a text character by character.
+-- A parser emits a text character by character.
 pub data Token : Type 0 where
   -- that of HTML
   doctype : Token
@@ -23,7 +23,7 @@ pub data Token : Type 0 where
   end_tag : List ℕ → Token
   character : ℕ → Token
 
--- A start tag before its end: its name, and the attributes that are whole.
+-- A start tag before its end: its name, and the attributes that are complete.
 pub record Tag : Type 0 where
   pub name : List ℕ
   pub attributes : List Attribute
@@ -42,7 +42,7 @@ pub data State : Type 0 where
   -- 13.2.5.8, of a start tag and of an end tag, with the name so far
   tag_name : List ℕ → State
   end_tag_name : List ℕ → State
-  -- 13.2.5.9 and 13.2.5.12, in an element of this name; 13.2.5.10, 11, 13 and 14, with the name so far behind it
+  -- 13.2.5.9 and 13.2.5.12, in an element of this name; 13.2.5.10, 11, 13 and 14, with the name so far after it
   less_than_sign : List ℕ → State
   closing : List ℕ → List ℕ → State
   -- 13.2.5.32, 13.2.5.33 and 13.2.5.35, with the name so far
@@ -52,12 +52,12 @@ pub data State : Type 0 where
   -- 13.2.5.36, the double-quoted one: the attribute's name, and its value so far; 13.2.5.39
   attribute_value : Tag → List ℕ → List ℕ → State
   after_attribute_value : Tag → State
-  -- 13.2.5.42 and from 13.2.5.53 on: what stands behind `<!`
+  -- 13.2.5.42 and from 13.2.5.53 on: what follows `<!`
   declaration : List ℕ → State
-  -- 13.2.5.72 and 13.2.5.73: the state to return to, and what stands behind the ampersand
+  -- 13.2.5.72 and 13.2.5.73: the state to return to, and what follows the ampersand
   reference : State → List ℕ → State
 
--- A state, and the tokens that were given out on the way to it.
+-- A state, and the tokens that were emitted on the way to it.
 pub record Reached : Type 0 where
   pub state : State
   pub given : List Token
@@ -69,7 +69,7 @@ ran state given = record { state = state; given = given }
 abbrev pub goes : State → Option Reached
 goes state = Some (ran state [])
 
--- to this state, and a token is given out
+-- to this state, and a token is emitted
 abbrev pub gives : State → Token → Option Reached
 gives state token = Some (ran state (token ∷ []))
 
@@ -78,15 +78,15 @@ gives state token = Some (ran state (token ∷ []))
 abbrev pub is_among : List (List ℕ) → List ℕ → Bool
 is_among names name = list_any (λ known. pointwise nat_eq known name) names
 
--- The elements of which something is said. No script is among them, and none that fetches anything.
+-- The elements that something is said of. None of them is a script or fetches anything.
 abbrev pub element_names : List (List ℕ)
 element_names =
     codes "html" ∷ codes "head" ∷ codes "meta" ∷ codes "title" ∷ codes "style" ∷ codes "body" ∷ codes "h1" ∷ codes "p" ∷ codes "table"
     ∷ codes "thead" ∷ codes "tbody" ∷ codes "tr" ∷ codes "th" ∷ codes "td" ∷ codes "ul" ∷ codes "li" ∷ codes "span" ∷ codes "bdi"
     ∷ codes "small" ∷ codes "strong" ∷ codes "i" ∷ codes "br" ∷ []
 
--- The state behind the start tag of an element: the text of a title has references and no tags, and that of a style has neither
--- (13.2.6.4.4). Behind any other of these names a parser stays in the data state.
+-- The state after the start tag of an element: the text of a title has references and no tags, and that of a style has neither
+-- (13.2.6.4.4). After any other of these names a parser stays in the data state.
 abbrev pub state_in : List ℕ → Option State
 state_in name =
     if is_among (codes "title" ∷ []) name then Some (rcdata name)
@@ -107,8 +107,8 @@ with_attribute tag name value =
 abbrev pub has_attribute : Tag → List ℕ → Bool
 has_attribute tag name = is_among (map (λ (attribute : Attribute). attribute.name) tag.attributes) name
 
--- The character that a name stands for, where a semicolon ends it: those of the named character references (13.5) of which
--- something is said here.
+-- The character that a name stands for, if a semicolon ends it: those of the named character references (13.5) that something is
+-- said of here.
 abbrev pub named_character : List ℕ → Option ℕ
 named_character name =
     if pointwise nat_eq name (codes "amp") then Some 38
@@ -133,7 +133,7 @@ is_space octet = octet == 32 || octet == 10
 abbrev pub is_replaced : ℕ → Bool
 is_replaced octet = octet == 0 || octet == 13
 
--- a character is given out, or is one more of a value
+-- a character is emitted, or added to a value
 abbrev pub takes : State → ℕ → Option Reached
 takes data_state octet = gives data_state (character octet)
 takes (rcdata name) octet = gives (rcdata name) (character octet)
@@ -191,17 +191,17 @@ step (reference state name) octet =
 
 -- ---- a source
 
--- these tokens were given out before
+-- these tokens were emitted before
 abbrev pub given_before : List Token → Reached → Reached
 given_before given last = ran last.state (given ++ last.given)
 
--- from a state over a source; none where it has another form
+-- from a state over a source; none if the source has another form
 unfoldable pub run : State → List ℕ → Option Reached
 run state [] = Some (ran state [])
 run state (octet ∷ source) =
     option_and_then (λ (next : Reached). option_map (given_before next.given) (run next.state source)) (step state octet)
 
--- In this state a source is read as these tokens, and behind it the state is that one.
+-- In this state a source is read as these tokens, and after it the state is that one.
 abbrev pub IsReadAs : State → List ℕ → List Token → State → Type 0
 IsReadAs before source given after = run before source ≡ Some (ran after given)
 
@@ -216,7 +216,7 @@ tokens source = option_and_then (λ (last : Reached). ended_in last.state last.g
 
 -- ---- escaped texts
 
--- An octet that neither opens or closes a tag, nor ends an attribute value, nor is a control character.
+-- An octet that doesn't open or close a tag, doesn't end an attribute value, and is no control character.
 pub record IsHarmless (octet : ℕ) : Type 0 where
   pub opens_nothing : octet ≢ 60
   pub closes_nothing : octet ≢ 62

@@ -25,7 +25,7 @@ fn day_octets(day: Day) -> [u8; 10]
     [y1, y2, y3, y4, b'-', m1, m2, b'-', d1, d2]
 }
 
-/// Appends a moment: its day, its time where it has one, and behind these `UTC` or its zone.
+/// Appends a moment: its day, its time if it has one, and after these `UTC` or its zone, if it has one.
 pub(crate) fn put_moment(out: &mut Vec<u8>, moment: &Moment) -> Result<(), AllocError>
     ensures { OnOk result (out.new.items ≡ out.old.items ++ moment_markup moment.now) }
 {
@@ -66,7 +66,7 @@ fn hour_octets(second: u32) -> [u8; 6]
     [b' ', h1, h2, b':', m1, m2]
 }
 
-/// Appends the seconds of a time; none of a whole minute.
+/// Appends the seconds of a time, or nothing at a whole minute.
 fn put_seconds(out: &mut Vec<u8>, second: u32) -> Result<(), AllocError>
     ensures { OnOk result (out.new.items ≡ out.old.items ++ second_text second) }
 {

@@ -7,8 +7,8 @@ use crate::put::put;
 use itip_streams::visible_octets;
 use std::alloc::AllocError;
 
-/// Appends a text as it stands in an element or in a double-quoted attribute value: the characters that mean something there as
-/// references, and control characters as their octets, `\x07`. If an allocation fails `out` stays as it was.
+/// Appends a text as it is written in an element or in a double-quoted attribute value: the characters that mean something there as
+/// references, and control characters as their bytes, `\x07`. If an allocation fails, `out` is unchanged.
 pub fn put_escaped(out: &mut Vec<u8>, text: &[u8]) -> Result<(), AllocError>
     ensures ok { OnOk result (out.new.items ≡ out.old.items ++ escaped text.now) }
     ensures err { OnErr result (out.new.items ≡ out.old.items) }
@@ -18,7 +18,7 @@ pub fn put_escaped(out: &mut Vec<u8>, text: &[u8]) -> Result<(), AllocError>
     out.extend_from_slice(markup.as_slice())
 }
 
-/// Appends an escaped text; where memory is refused, perhaps a part of it.
+/// Appends an escaped text. If an allocation fails, part of it may have been appended.
 fn put_text(out: &mut Vec<u8>, text: &[u8]) -> Result<(), AllocError>
     ensures { OnOk result (out.new.items ≡ out.old.items ++ escaped text.now) }
 {

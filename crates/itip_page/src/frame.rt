@@ -1,4 +1,4 @@
-//! What stands before and behind the rows of a page.
+//! What comes before and after the rows of a page.
 ghost use Rattle.std.specs.Prelude.{◌≡◌, ◌++◌, OnOk, OnErr};
 ghost use Rattle.itip_page.specs.Page.{head_markup, foot_markup, title_markup, heading_markup, counted_markup};
 ghost use Rattle.itip_page.specs.Page.{count_text, days_text, nearest};
@@ -10,7 +10,7 @@ use itip_moment::Day;
 use itip_view::Window;
 use std::alloc::AllocError;
 
-// Nothing but what stands in the file may be used: a browser that knows the policy sees to that, whatever the file has.
+// The policy allows nothing but what is in the file; a browser that knows it enforces that, whatever the file has.
 const OPENING: &str = "<!DOCTYPE html>
 <html lang=\"en\">
 <head>
@@ -45,8 +45,8 @@ const FIRST_DAY: i32 = -719_528;
 // 9999-12-31
 const LAST_DAY: i32 = 2_932_896;
 
-/// Appends what stands before the rows: the style, the days of the window, how many rows there are, today, and the names of the
-/// columns. If an allocation fails `out` stays as it was.
+/// Appends what comes before the rows: the style, the first and the last day of the window, how many rows there are, today, and the
+/// names of the columns. If an allocation fails, `out` is unchanged.
 pub fn put_head(
     out: &mut Vec<u8>,
     window: Window,
@@ -61,7 +61,7 @@ pub fn put_head(
     out.extend_from_slice(markup.as_slice())
 }
 
-/// Appends what stands behind the rows. If an allocation fails `out` stays as it was.
+/// Appends what comes after the rows. If an allocation fails, `out` is unchanged.
 pub fn put_foot(out: &mut Vec<u8>) -> Result<(), AllocError>
     ensures ok { OnOk result (out.new.items ≡ out.old.items ++ foot_markup) }
     ensures err { OnErr result (out.new.items ≡ out.old.items) }
@@ -69,7 +69,7 @@ pub fn put_foot(out: &mut Vec<u8>) -> Result<(), AllocError>
     out.extend_from_slice(CLOSING.as_bytes())
 }
 
-/// Appends the parts of a head; where memory is refused, perhaps some of them.
+/// Appends the parts of a head. If an allocation fails, some of them may have been appended.
 fn put_head_parts(
     out: &mut Vec<u8>,
     window: Window,
@@ -102,7 +102,7 @@ fn put_heading(out: &mut Vec<u8>, window: Window) -> Result<(), AllocError>
     put(out, "</span></h1>\n")
 }
 
-/// Appends how many rows there are, and the day that is taken for today.
+/// Appends how many rows there are, and the day that is taken as today.
 fn put_counted(out: &mut Vec<u8>, today: Day, number: usize) -> Result<(), AllocError>
     ensures { OnOk result (out.new.items ≡ out.old.items ++ counted_markup today.number number) }
 {
@@ -132,7 +132,7 @@ fn put_days(out: &mut Vec<u8>, window: Window) -> Result<(), AllocError>
     put_day(out, nearest(window.to - 1))
 }
 
-/// The day of a number, or the nearest of the years 0000 to 9999.
+/// The day of a number, or the nearest one in the years 0000 to 9999.
 fn nearest(number: i32) -> Day
     ensures { result.number ≡ nearest number }
 {

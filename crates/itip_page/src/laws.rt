@@ -1,4 +1,4 @@
-//! What an HTML parser makes of a page, and of the texts in it, as public functions without a body.
+//! What an HTML parser makes of a page, and of the texts in it. These laws need no code: each function is empty.
 ghost use Rattle.std.specs.Prelude.{◌≡◌, ◌++◌, ℕ, List, [], Some, true};
 ghost use Rattle.std.specs.List.{All, list_all};
 ghost use Rattle.std.specs.Str.{IsUtf8};
@@ -13,7 +13,7 @@ ghost use Rattle.itip_page.specs.Tokens.{Tag, tokens, data_state, attribute_valu
 ghost use Rattle.itip_page.specs.Value.{value_markup};
 
 /// A page is read as its elements, each in its place, with the texts of messages as characters between them or as the value of a
-/// `title`. Its elements and attributes have names of two lists, in which there is no `script`, no `src` and no `href`.
+/// `title`. The names of its elements and attributes are from two lists, which have no `script`, no `src` and no `href`.
 pub fn page_has_its_tokens()
     ensures read { (window : Window) (today : Day) (rows : List Row)
         → tokens (page_markup window today.number rows) ≡ Some (page_tokens window today.number rows) }
@@ -21,33 +21,33 @@ pub fn page_has_its_tokens()
         → list_all is_of_page (page_tokens window today.number rows) ≡ true }
 {}
 
-/// The style of a page has no word by which a style sheet fetches something.
+/// The style of a page has none of the words with which a style sheet fetches something.
 pub fn style_fetches_nothing()
     ensures { fetches_nothing style_sheet ≡ true }
 {}
 
-/// Between the tags of an element a parser takes an escaped text for the text itself, its control characters shown as octets.
+/// Between the tags of an element a parser reads an escaped text as the text itself, with its control characters shown as bytes.
 pub fn values_stay_in_elements()
     ensures { (text : List ℕ) → IsReadAs data_state (escaped text) (shown text) data_state }
 {}
 
-/// So it does in an attribute value between double quotes, behind what is there of the value.
+/// The same in an attribute value between double quotes: an escaped text is read as more of the value, after what there is of it.
 pub fn values_stay_in_attributes()
     ensures { (tag : Tag) (name value text : List ℕ)
         → IsReadAs (attribute_value tag name value) (escaped text) [] (attribute_value tag name (value ++ visible text)) }
 {}
 
-/// A value of type TEXT is read as its lines, with a tag `br` between two of them and no other tag.
+/// A value of type TEXT is read as its lines, with a tag `br` between each two and no other tag.
 pub fn values_are_lines()
     ensures { (value : List ℕ) → IsReadAs data_state (value_markup value) (value_tokens value) data_state }
 {}
 
-/// An escaped text has no `<`, no `>`, no double quote, and no control character of one octet.
+/// An escaped text has no `<`, no `>`, no double quote, and no control character of one byte.
 pub fn values_have_no_markup()
     ensures { (text : List ℕ) → All IsHarmless (escaped text) }
 {}
 
-/// An escaped text is in UTF-8, as the text is.
+/// An escaped text is UTF-8 if the text is.
 pub fn values_stay_utf8()
     ensures { (text : List ℕ) → IsUtf8 text → IsUtf8 (escaped text) }
 {}

@@ -1,8 +1,8 @@
 //! The task list as a page: one HTML file without scripts and without anything from outside, for a screen, a phone and print.
 //!
-//! What stands in it is what its reader has: the window, the day that is taken for today, and the rows. Each text of a message
-//! stands in it escaped, between tags or in a double-quoted attribute value. What an HTML parser makes of the whole page is a law
-//! ([`page_has_its_tokens`]): its elements, each in its place, and each of these texts as that text and as nothing else.
+//! A page shows the window, the day that is taken as today, and the rows, and nothing else. Each text of a message is escaped in it,
+//! between tags or in a double-quoted attribute value. What an HTML parser makes of the whole page is a law ([`page_has_its_tokens`]):
+//! its elements, each in its place, and each of these texts as that text and as nothing else.
 #![tactic(auto)]
 
 mod dates;

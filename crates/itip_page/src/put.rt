@@ -1,4 +1,4 @@
-//! Pieces of a page that are no text of a message.
+//! Pieces of a page that are not texts of messages.
 ghost use Rattle.std.specs.Prelude.{◌≡◌, ◌<◌, ◌++◌, OnOk};
 ghost use Rattle.std.specs.Fmt.{decimal};
 ghost use Rattle.itip_moment.specs.Digits.{two_digits};

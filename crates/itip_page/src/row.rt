@@ -14,21 +14,21 @@ use itip_todo::Status;
 use itip_view::{Row, RowForm, RowId, is_overdue};
 use std::alloc::AllocError;
 
-/// More octets than most rows have.
+/// More bytes than most rows have.
 const USUAL: usize = 1_024;
 
-/// Rows of a table, on a day that is taken for today.
+/// Rows of a table, with the day that is taken as today.
 ///
 /// A row has six cells:
 ///
-/// - the value of SUMMARY, or the UID where that is absent or empty; the UID as it stands is the title of the cell;
-/// - DTSTART, or else the moment that names the instance; `repeats, shown once` where the recurrence isn't expanded;
-/// - DUE, and `overdue` where an open row is due before today;
+/// - the value of SUMMARY, or of the UID if that is absent or empty; the raw UID is the title of the cell;
+/// - DTSTART, or else the moment that names the instance; `repeats, shown once` if the recurrence isn't expanded;
+/// - DUE, and `overdue` if an open row is due before today;
 /// - STATUS;
 /// - PROGRESS as a bar and a number, and PERCENT-COMPLETE;
 /// - the attendees with their answers, and the percentage that each told.
 ///
-/// A cell of which none of these is there is empty.
+/// A cell that has none of these is empty.
 #[derive(Clone, Copy, Debug)]
 pub struct PageRows {
     pub today: Day,
@@ -37,7 +37,7 @@ pub struct PageRows {
 impl RowForm for PageRows {
     ghost octets = { λ form row. row_markup form.today.number row };
 
-    /// Appends a row. If an allocation fails `out` stays as it was.
+    /// Appends a row. If an allocation fails, `out` is unchanged.
     fn put(&self, row: &Row, out: &mut Vec<u8>) -> Result<(), AllocError>
         ensures ok { OnOk result (out.new.items ≡ out.old.items ++ row_markup self.now.today.number row.now) }
         ensures err { OnErr result (out.new.items ≡ out.old.items) }
@@ -48,7 +48,7 @@ impl RowForm for PageRows {
     }
 }
 
-/// Appends a row; where memory is refused, perhaps a part of it.
+/// Appends a row. If an allocation fails, part of it may have been appended.
 fn put_row(out: &mut Vec<u8>, row: &Row, today: Day) -> Result<(), AllocError>
     ensures { OnOk result (out.new.items ≡ out.old.items ++ row_markup today.number row.now) }
 {
@@ -104,7 +104,7 @@ fn put_name(out: &mut Vec<u8>, row: &Row) -> Result<(), AllocError>
     put_value(out, name_of(row))
 }
 
-/// The SUMMARY, or the UID where there is none or an empty one.
+/// The SUMMARY, or the UID if that is absent or empty.
 fn name_of(row: &Row) -> &[u8]
     ensures { result.now ≡ name_of row.now.summary row.now.uid }
 {
@@ -217,7 +217,7 @@ fn put_bar(out: &mut Vec<u8>, progress: Option<u8>) -> Result<(), AllocError>
     put(out, "%")
 }
 
-/// Appends what the organizer says of it.
+/// Appends how far it is according to the organizer.
 fn put_own(out: &mut Vec<u8>, percent: Option<u8>) -> Result<(), AllocError>
     ensures { OnOk result (out.new.items ≡ out.old.items ++ own_markup percent) }
 {

@@ -13,9 +13,9 @@ enum Shown {
     LineBreak,
 }
 
-/// Appends the value of a property of type TEXT, such as SUMMARY: its commas, semicolons and backslashes without the backslash
-/// before them, and its line breaks as `<br>`, which is the only tag that comes of it; each line as [`put_escaped`] has it. If an
-/// allocation fails `out` stays as it was.
+/// Appends the value of a property of type TEXT, such as SUMMARY: its commas, semicolons and backslashes without the backslash before
+/// them, and its line breaks as `<br>`, the only tag that comes of it; each line as [`put_escaped`] appends it. If an allocation
+/// fails, `out` is unchanged.
 pub fn put_value(out: &mut Vec<u8>, value: &[u8]) -> Result<(), AllocError>
     ensures ok { OnOk result (out.new.items ≡ out.old.items ++ value_markup value.now) }
     ensures err { OnErr result (out.new.items ≡ out.old.items) }
@@ -25,7 +25,7 @@ pub fn put_value(out: &mut Vec<u8>, value: &[u8]) -> Result<(), AllocError>
     out.extend_from_slice(markup.as_slice())
 }
 
-/// Appends a value line by line; where memory is refused, perhaps a part of it.
+/// Appends a value line by line. If an allocation fails, part of it may have been appended.
 fn put_lines(out: &mut Vec<u8>, value: &[u8]) -> Result<(), AllocError>
     ensures { OnOk result (out.new.items ≡ out.old.items ++ value_markup value.now) }
 {
@@ -38,7 +38,7 @@ fn put_lines(out: &mut Vec<u8>, value: &[u8]) -> Result<(), AllocError>
     put_escaped(out, line.as_slice())
 }
 
-/// Puts an octet behind the line; or the line behind the page, with its end.
+/// Appends an octet to the line; or the line and its end to the page, and then clears the line.
 fn put_shown(out: &mut Vec<u8>, line: &mut Vec<u8>, shown: Shown) -> Result<(), AllocError>
     ensures { OnOk result (PutsNext shown out.old.items out.new.items line.old.items line.new.items) }
 {
@@ -53,7 +53,7 @@ fn put_shown(out: &mut Vec<u8>, line: &mut Vec<u8>, shown: Shown) -> Result<(), 
     Ok(())
 }
 
-/// What a value shows next, and what is behind it.
+/// What a value shows next, and what comes after it; `None` if the value is empty.
 fn next_shown(value: &[u8]) -> Option<(Shown, &[u8])>
     ensures next { MatchOption result (value.now ≡ []) (λ next. IsNext value.now next.0 next.1.now) }
     ensures shorter { MatchOption result (value.now ≡ []) (λ next. length next.1.now < length value.now) }

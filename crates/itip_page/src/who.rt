@@ -59,7 +59,7 @@ fn put_told(out: &mut Vec<u8>, percent: Option<u8>) -> Result<(), AllocError>
     put(out, "%")
 }
 
-/// A calendar address without `mailto:` before it, in whatever case; any other as it is.
+/// A calendar address without its `mailto:`, which may be in any case; any other address as it is.
 fn bare_address(address: &[u8]) -> &[u8]
     ensures { result.now ≡ bare_address address.now }
 {

@@ -1,4 +1,4 @@
-//! Many messages, read on threads. Reading one is `itip_message`, which needs no thread.
+//! Reading many messages on threads. Reading a single one is in `itip_message`, and needs no threads.
 #![tactic(auto)]
 
 mod many;

@@ -10,9 +10,10 @@ use rayon::prelude::*;
 use std::alloc::{AllocError, Global};
 use std::thread::Threads;
 
-/// What [`read_message`] gives for each text, in their order, from as many threads as there are processors.
+/// Returns the result of [`read_message`] for each text, in their order, from as many threads as there are processors.
 ///
-/// A text whose own reading ran out of memory answers so, and leaves the others as they are.
+/// If an allocation fails while a text is read, its own result is that error, and the others are unaffected. Returns [`AllocError`]
+/// if any other allocation fails.
 pub fn read_all(
     rt: &(impl Threads + Sync),
     alloc: Global,

@@ -75,7 +75,7 @@ IsStep-after limit P R Q a b c (Err TooMany) like first h =
     Exceeds-like limit (λ m. P m ⊎ R m) Q a c (λ m. (like m).0) (Exceeds-after limit P R a b c first h)
 IsStep-after limit P R Q a b c (Err NoMemory) like first h = tt
 
--- a moment put to the end
+-- a moment that is added at the end
 push_gains : (old : List Moment) (moment : Moment) → Gains (λ m. m ≡ moment) old (old ++ moment ∷ [])
 push_gains old moment m = (
   λ h. elim (Contains-push_cases old moment m h) [ inl there ↦ inl there | inr same ↦ inr (sym same) ],

@@ -1,4 +1,4 @@
--- Moments in ascending order: one is found by halves, and a later one goes to the end.
+-- Moments in ascending order: one is found by binary search, and a later one goes to the end.
 use Rattle.std.proofs.Common.{◌≡◌, ℕ, ◌+◌, ◌↔◌, Bool, true, false, not, if◌then◌else◌, inl, inr, refl, sym, subst, ap, ◌∙◌, arith, ◌<ℤ◌}
 use Rattle.std.proofs.Common.{List, [], ◌∷◌, ◌++◌, length, get_or, IsTrue, Result, Ok, Err}
 use Rattle.std.specs.List.{Contains, AllByRecursion}
@@ -43,7 +43,7 @@ ascends xs s k d low high =
     ap ordering_reverse less in
     ap is_lt flip
 
--- a search by halves finds exactly what is there
+-- a binary search finds exactly what is there
 pub sought : (xs : List Moment) (x : Moment) (r : Result ℕ ℕ) → IsStrictlySortedBy moment_cmp xs → IsSearchInRange r (length xs) →
     IsBinarySearchResult (λ y. moment_cmp y x) xs r → IsTrue (is_ok r) ↔ Contains xs x
 sought xs x (Ok i) s bound at = (λ h. Contains-from_at xs x (i, bound, λ d. moment_equal (get_or xs i d) x (at d)), λ h. refl)

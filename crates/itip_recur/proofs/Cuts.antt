@@ -18,7 +18,7 @@ cut_first bs (Some x) is =
     let h = split_once_first 44 bs (Some x) is (omega arith) in
     (rw (h.1, h.2) (slice_split_first (λ c. c == 44) bs 0 h.0), (split_parts 44 bs (Some x) is (omega arith)).0)
 
--- in how many parts the names stand
+-- how many parts have one of the names
 module _ (names_it : List ℕ → List ℕ → Bool) where
   abbrev total : List (List ℕ) → List (List ℕ) → ℕ
   total [] parts = 0

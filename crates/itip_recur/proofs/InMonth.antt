@@ -1,4 +1,4 @@
--- The days of a month stand side by side.
+-- The days of a month follow one another.
 use Rattle.std.proofs.Common.{◌≡◌, ℕ, zero, suc, ◌+◌, ◌-◌, ◌*◌, ◌<◌, ◌≤◌, true, false, cond, nat_lt, refl, sym, subst, ◌∙◌, arith, ℤ, pos}
 use Rattle.std.proofs.Common.{◌+ℤ◌, ◌<ℤ◌, ◌≤ℤ◌}
 use Rattle.std.proofs.lemmas.Bool.{lt-ltb, ltb-false}
@@ -10,7 +10,7 @@ use Rattle.itip_moment.specs.Written.{YearMonthDay, next_date, nth_date}
 use Rattle.itip_recur.specs.Calendar.{days_from_zero, date_of, year_number, month_of_year, day_of_month, month_length}
 use Rattle.itip_recur.proofs.Dates.{IsPlain, months, nth_date-IsPlain, pos-unsigned_abs, pos-days_from_zero}
 
--- so many days after d, in its month
+-- `k` days after d, in its month
 record IsAfter (d e : YearMonthDay) (k : ℕ) : Type 0 where
   year : e.year ≡ d.year
   month : e.month ≡ d.month
@@ -44,7 +44,7 @@ stays n (suc k) (suc m) e le =
     let step = next_in_month (nth_date m) (omega (arith, before.day)) in
     record { year = step.year ∙ before.year; month = step.month ∙ before.month; day = omega (arith, step.day, before.day) }
 
--- x lies in the month of the day, so many days after it
+-- x lies in the month of the day, and is as many days after it as its day of the month
 pub record IsInMonth (day x : ℤ) : Type 0 where
   pub year : year_number x ≡ year_number day
   pub month : month_of_year x ≡ month_of_year day
@@ -70,7 +70,7 @@ in_month day x day_in low high =
       within = omega (arith, signed_arith, after.day, n, m);
     }
 
--- e is the first of the month behind the one of d
+-- e is the first of the month after that of d
 pub record IsFirstBehind (d e : YearMonthDay) : Type 0 where
   pub month : months e ≡ months d + 1
   pub day : e.day ≡ 1
@@ -102,7 +102,7 @@ turns n k (suc m) e last =
     let step = next_from_last (nth_date m) (nth_date-IsPlain m) (omega (arith, at.day, long, last)) in
     record { month = omega (arith, step.month, at.year, at.month); day = step.day }
 
--- behind the last day of a month comes the first of the next
+-- after the last day of a month comes the first of the next
 pub first_of_next : (day x : ℤ) → IsDayNumber day → day_of_month day ≤ month_length day →
     x ≡ day +ℤ pos (month_length day + 1 - day_of_month day) → IsFirstBehind (date_of day) (date_of x)
 first_of_next day x day_in le is =
@@ -111,7 +111,7 @@ first_of_next day x day_in le is =
     turns (days_from_zero day) (month_length day - day_of_month day) (days_from_zero x) (omega (arith, signed_arith, n, m, is))
     (omega (arith, le))
 
--- its year and its month, where they are counted over all years
+-- its year and its month, from months counted over all years
 pub parts_behind : (day x : ℤ) (y m year month : ℕ) → IsFirstBehind (date_of day) (date_of x) → y ≡ year_number day →
     m ≡ month_of_year day → 12 * year + month ≡ 12 * y + m + 1 → (1 ≤ month) × (month ≤ 12) → (year ≡ year_number x) ×
     (month ≡ month_of_year x)

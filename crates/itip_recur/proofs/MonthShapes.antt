@@ -107,7 +107,7 @@ within : (first x : ℤ) → IsDayNumber first → day_of_month first ≡ 1 → 
     IsInMonth first x
 within first x first_in one low high = in_month first x first_in low (omega (arith, signed_arith, one, high))
 
--- the day so many days after another first of a month
+-- the day as many days after another first of a month
 module _ (first other x : ℤ) (first_in : IsDayNumber first) (other_in : IsDayNumber other) (one : day_of_month first ≡ 1)
     (one_too : day_of_month other ≡ 1) (long : month_length first ≡ month_length other)
     (weekday : weekday_number first ≡ weekday_number other) (low : first ≤ℤ x)
@@ -182,7 +182,7 @@ pub none_met : (rule : Rule) (start : ℤ) → AreMet rule start (replicate 224 
 none_met rule start first own known =
     absurd (known (get_or-replicate 224 (month_shape first) unknown 0 (shape_small first)))
 
--- one more
+-- one more was met
 pub one_met : (rule : Rule) (start first : ℤ) (met : List ℕ) (seen : ℕ) → IsFirstOfOwn rule start first →
     month_shape first < length met → AreMet rule start met →
     Walked rule start first seen (first +ℤ pos (month_length first)) → AreMet rule start (slice_set met (month_shape first) seen)

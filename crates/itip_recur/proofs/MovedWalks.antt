@@ -1,4 +1,4 @@
--- Days of a pattern that come again so many days later are walked through alike.
+-- Days of a pattern that come again some days later are walked through alike.
 use Rattle.std.proofs.Common.{◌≡◌, ℕ, zero, suc, sym, subst, arith, ℤ, pos, ◌+ℤ◌, ◌-ℤ◌, ◌<ℤ◌, ◌≤ℤ◌}
 use Rattle.jiff_core.proofs.SignedLemmas.{signed_arith}
 use Rattle.itip_recur.specs.declared.rule.Rule.{Rule}
@@ -6,7 +6,7 @@ use Rattle.itip_recur.specs.Pattern.{InPattern}
 use Rattle.itip_recur.specs.Walk.{IsNoDay, IsNextDay}
 use Rattle.itip_recur.specs.Counting.{Walked}
 
--- each day from `low` on and before `high` is in the pattern exactly where the day so many days later is
+-- each day from `low` on and before `high` is in the pattern exactly when the day `shift` days later is
 pub record ComesAgain (rule : Rule) (start low high shift : ℤ) : Type 0 where
   pub later : (x : ℤ) → low ≤ℤ x → x <ℤ high → InPattern rule start x → InPattern rule start (x +ℤ shift)
   pub earlier : (x : ℤ) → low ≤ℤ x → x <ℤ high → InPattern rule start (x +ℤ shift) → InPattern rule start x

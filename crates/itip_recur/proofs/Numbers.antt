@@ -1,4 +1,4 @@
--- Digits are text, and what stands before a weekday's two letters.
+-- Digits are text, and what comes before a weekday's two letters.
 use Rattle.std.proofs.Common.{◌≡◌, ℕ, ◌+◌, ◌-◌, ◌<◌, ◌≤◌, refl, sym, ap, subst, ◌∙◌, arith, List, [], ◌∷◌, ◌++◌, length, get_or, take, drop}
 use Rattle.std.proofs.Common.{Result, Ok, Err, None, inl, inr, length-append}
 use Rattle.std.specs.Result.{MatchResult, result_ok}
@@ -39,7 +39,7 @@ pair (a ∷ []) e = absurd (omega arith)
 pair (a ∷ b ∷ []) e = refl
 pair (a ∷ b ∷ c ∷ more) e = absurd (omega arith)
 
--- where a text ends in a weekday, its two letters and what stands before them
+-- if a text ends in a weekday, its two letters and what comes before them
 pub record IsEnding (text front : List ℕ) (w : Weekday) : Type 0 where
   pub front_is : take (length text - 2) text ≡ front
   pub letters : to_ascii_uppercase (get_or text (length text - 2) 0) ∷ to_ascii_uppercase (get_or text (length text - 1) 0) ∷
@@ -95,7 +95,7 @@ IsNthText-of text place w long parts =
           ap (λ b. to_ascii_uppercase (get_or text (length text - 2) 0) ∷ to_ascii_uppercase b ∷ []) second ∙ parts.letters;
     }
 
--- a test that failed was not of a text
+-- what was refused is not such a text
 pub refused : {T E : Type 0} (r : Result T E) (P : T → Type 0) (Q : Type 0) (V : E → Type 0) → None ≡ result_ok r →
     MatchResult r P (λ e. (Q → ⊥) × V e) → Q → ⊥
 refused (Ok x) P Q V none h q = cc

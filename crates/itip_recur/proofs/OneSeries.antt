@@ -1,4 +1,4 @@
--- A text is one rule, and a to-do repeats us one series.
+-- A text is one rule, and a to-do repeats as one series.
 use Rattle.std.proofs.Common.{◌≡◌, ◌≤◌, ◌+◌, ◌-◌, ◌*◌, ℕ, nat_eq, cond, List, [], ◌∷◌, length, take, get_or, refl, sym, ◌∙◌, ap, subst, inl}
 use Rattle.std.proofs.Common.{inr, arith, Option, Some, None}
 use Rattle.std.specs.Prelude.{codes, map}

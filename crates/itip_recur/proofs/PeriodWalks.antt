@@ -133,7 +133,7 @@ Counted-walked rule start count seen (suc k) a b low high room c (found, next, r
     (Counted-walked rule start count (seen + 1) k (found +ℤ pos 1) b (omega (arith, signed_arith)) high (omega arith)
     (Counted-more rule start count seen a b day c next (omega arith)) rest)
 
--- so many periods from the day behind the start on
+-- some number of periods from the day after the start on
 module _ (rule : Rule) (start : ℤ) (count k period : ℕ) (is : IsPeriod rule (pos period)) (positive : 0 < period) (first : ℤ)
     (low : neg_ℤ (pos 719_528) ≤ℤ first) (begin : Counted rule start count 1 first)
     (walked : Walked rule start first k (first +ℤ pos period)) where

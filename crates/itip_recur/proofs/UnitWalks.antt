@@ -91,7 +91,7 @@ pub IsUnitFrom-number : (rule : Rule) (start day : ℤ) (unit : ℕ) (first : �
 IsUnitFrom-number rule start day unit first from first_in = let low = from.low first first_in (omega (arith, signed_arith)) in let high =
     from.high first_in in omega arith
 
--- a unit goes on behind its first day
+-- a unit goes on after its first day
 pub starts_before : (rule : Rule) (start day : ℤ) (unit : ℕ) (first next end stop : ℤ) → IsUnitFrom rule start day unit first →
     IsFirstDay rule (unit + 1) next → first <ℤ end → IsDayOrEnd end → (stop ≡ next) ⊎ (stop ≡ end) → first <ℤ stop
 starts_before rule start day unit first next end stop from ends high end_in one =
@@ -122,7 +122,7 @@ goes_on rule start day next unit first le none from =
       congruent = from.congruent;
     }
 
--- the units behind one of the rule's own, up to the next, are not its own
+-- the units after one of the rule's own, up to the next, are not its own
 pub unit_behind : (rule : Rule) (start here : ℤ) (unit : ℕ) (next first : ℤ) → IsDayNumber here →
     unit_number rule.frequency rule.week_start here ≡ unit →
     unit % rule.interval ≡ unit_number rule.frequency rule.week_start start % rule.interval → rule.interval < 2 ^ 16 → unit < 2 ^ 22 →

@@ -13,7 +13,7 @@ use Rattle.itip_recur.specs.declared.rule.MonthWeekday.TheVariants.{Nth}
 use Rattle.itip_recur.specs.Pattern.{IsAtPlace, IsInSeven, IsMonthWeekday, IsOnWeekday}
 use Rattle.itip_recur.proofs.InMonth.{IsInMonth, in_month, pos-days_from_zero-low}
 
--- a day that isn't P
+-- a day for which P doesn't hold
 pub one_day : (P : ℤ → Type 0) (day : ℤ) → (P day → ⊥) → IsWait P day (pos 1)
 one_day P day not =
     record {
@@ -21,7 +21,7 @@ one_day P day not =
       none = λ x low high is. let same : x ≡ day = omega (arith, signed_arith) in not (subst P same is);
     }
 
--- the rest of a month of which no day is P
+-- the rest of a month for no day of which P holds
 pub in_rest : (P : ℤ → Type 0) (day r : ℤ) → IsDayNumber day → pos 1 ≤ℤ r → r ≡ pos (month_length day + 1 - day_of_month day) →
     ((x : ℤ) → IsInMonth day x → day ≤ℤ x → P x → ⊥) → IsWait P day r
 in_rest P day r day_in low is none =
@@ -39,7 +39,7 @@ for_day day d wanted day_in is le high =
           omega (arith, signed_arith, at.at, is, same);
     }
 
--- the rest of a month has no day of the month that is past
+-- the rest of a month doesn't have a day of the month that is past
 pub past : (day x : ℤ) (wanted : ℕ) → wanted < day_of_month day → IsInMonth day x → day ≤ℤ x → day_of_month x ≡ wanted → ⊥
 past day x wanted lt at ge same = omega (arith, signed_arith, at.at)
 
@@ -47,7 +47,7 @@ past day x wanted lt at ge same = omega (arith, signed_arith, at.at)
 pub too_long : (day x : ℤ) (wanted : ℕ) → month_length day < wanted → IsInMonth day x → day_of_month x ≡ wanted → ⊥
 too_long day x wanted lt at same = omega (arith, at.within)
 
--- a day that isn't P, and none of the days behind it that are passed over
+-- P doesn't hold for a day, nor for the days after it that are passed over
 pub and_behind : (P : ℤ → Type 0) (day wait : ℤ) → (P day → ⊥) → pos 1 ≤ℤ wait → IsNone P (day +ℤ pos 1) (day +ℤ wait) → IsWait P day wait
 and_behind P day wait not low none =
     record {
@@ -57,11 +57,11 @@ and_behind P day wait not low none =
           (λ le. let same : x ≡ day = omega (arith, signed_arith) in not (subst P same p));
     }
 
--- no day lies behind this one and before the next
+-- no day lies after this one and before the next
 pub none_behind : (P : ℤ → Type 0) (day : ℤ) → IsNone P (day +ℤ pos 1) (day +ℤ pos 1)
 none_behind P day x low high p = omega (arith, signed_arith)
 
--- no such weekday lies behind this day and those that were passed over, up to the next
+-- no such weekday lies after this day and those that were passed over, up to the next
 pub no_weekday : (w d k : ℕ) (day : ℤ) → w ≤ 6 → k ≤ 30 → d ≡ weekday_number day → IsDayNumber day →
     IsNone (λ x. weekday_number x ≡ w) (day +ℤ pos (1 + k)) (day +ℤ pos k +ℤ pos ((w + 41 - d - k) % 7 + 1))
 no_weekday w d k day small few is day_in x low high on =
@@ -69,7 +69,7 @@ no_weekday w d k day small few is day_in x low high on =
     let there = pos-days_from_zero-low x (omega (arith, signed_arith, day_in)) in
     omega (arith, signed_arith, here, there, is, on)
 
--- none of the days behind this one and in its month is in a place's seven, where none has a day of the month in them
+-- none of the days after this one and in its month is in a place's seven, if none has a day of the month in them
 pub not_in_seven : (place : Place) (day : ℤ) (before end k : ℕ) → IsDayNumber day → day_of_month day + k ≤ month_length day →
     ((x : ℤ) → month_length x ≡ month_length day → IsInSeven place x → (before < day_of_month x) × (day_of_month x ≤ end)) →
     ((m : ℕ) → day_of_month day < m → m ≤ day_of_month day + k → before < m → m ≤ end → ⊥) →
@@ -79,7 +79,7 @@ not_in_seven place day before end k day_in within bounds none x low high is =
     let b = bounds x at.long is in
     none (day_of_month x) (omega (arith, signed_arith, at.at)) (omega (arith, signed_arith, at.at)) b.0 b.1
 
--- nor is a day such a weekday of a place: it lies before the place's seven, or before the weekday behind them
+-- nor is a day such a weekday of a place: it lies before the place's seven, or before the next such weekday from there on
 pub no_nth : (place : Place) (w : Weekday) (day wait : ℤ) (k : ℕ) → IsNone (IsInSeven place) (day +ℤ pos 1) (day +ℤ pos (1 + k)) →
     IsNone (IsOnWeekday w) (day +ℤ pos (1 + k)) (day +ℤ pos k +ℤ wait) →
     IsNone (IsMonthWeekday (Nth place w)) (day +ℤ pos 1) (day +ℤ (pos k +ℤ wait))
@@ -93,7 +93,7 @@ in_last_seven n x days same is =
     let low = (date_of-IsPlain x).day_low in
     (omega (arith, same, is.after, is.within, low), omega (arith, same, is.after, is.within))
 
--- none of the days behind this one, in its month and before the one that is wanted, is at the place
+-- none of the days after this one, in its month and before the one that is wanted, is at the place
 pub no_place : (place : Place) (day : ℤ) (wanted k : ℕ) → IsDayNumber day → day_of_month day + k ≤ month_length day + 1 →
     ((x : ℤ) → month_length x ≡ month_length day → day_of_month x ≤ month_length day → IsAtPlace place x → day_of_month x ≡ wanted) →
     ((m : ℕ) → day_of_month day < m → m < day_of_month day + k → m ≤ month_length day → m ≡ wanted → ⊥) →

@@ -18,7 +18,7 @@ pub low_bits : (n i : ℕ) → i < 7 → bit_at (n % 128) i ≡ bit_at n i
 low_bits n i small =
     ap (λ m. bit_at m i) (sym (and_mask n 7)) ∙ (bit_at_and n 127 i ∙ omega (arith, bit_at_ones 7 i small, bit_at-lt n i))
 
--- a week twice, one after the other
+-- a week twice in a row
 twice_low : (w j : ℕ) → w < 128 → j < 7 → bit_at (129 * w) j ≡ bit_at w j
 twice_low w j fits small =
     let low : (129 * w) % 128 ≡ w = omega arith in
@@ -78,7 +78,7 @@ by_zeros n small =
           }
     ]
 
--- the weekday so many days later
+-- the weekday `k` days later
 later_weekday : (from x : ℤ) (k : ℕ) → IsDayNumber from → x ≡ from +ℤ pos k → weekday_number x ≡ (weekday_number from + k) % 7
 later_weekday from x k from_in is =
     let here = pos-days_from_zero from from_in in

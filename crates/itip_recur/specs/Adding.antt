@@ -13,18 +13,18 @@ use Rattle.itip_recur.specs.Members.{HasTimeOf, IsRuleMember, IsRepeat, IsCandid
 use Rattle.itip_recur.specs.Walk.{IsUpTo}
 use Rattle.itip_recur.specs.Occurrences.{IfTooMany}
 
--- there are now the moments that there were, and those that are P, no more than the limit
+-- the moments are now the old ones and those for which P holds; they stay within the limit if the old ones were
 pub record Adds (limit : ℕ) (P : Moment → Type 0) (old new : List Moment) : Type 0 where
   pub exactly : (m : Moment) → Contains new m ↔ (Contains old m ⊎ P m)
   pub small : length old ≤ limit → length new ≤ limit
 
--- there are more than the limit, each of which was there or is P
+-- there are more moments than the limit, each of which is an old one or one for which P holds
 pub record Exceeds (limit : ℕ) (P : Moment → Type 0) (old new : List Moment) : Type 0 where
   pub ascending : IsStrictlySortedBy moment_cmp new
   pub each : (m : Moment) → Contains new m → Contains old m ⊎ P m
   pub many : limit < length new
 
--- there are now the moments that there were, and those that are P
+-- the moments are now the old ones and those for which P holds
 abbrev pub Gains : (Moment → Type 0) → List Moment → List Moment → Type 0
 Gains P old new = (m : Moment) → Contains new m ↔ (Contains old m ⊎ P m)
 
@@ -38,19 +38,19 @@ pub record IsKept (series : Series) (from to : ℤ) (m : Moment) : Type 0 where
   pub not_before : from ≤ℤ moment_day m
   pub before_end : moment_day m <ℤ to
 
--- the start, where it is a member
+-- the start, if it is a member
 pub record IsStart (series : Series) (from to : ℤ) (m : Moment) : Type 0 where
   pub is : m ≡ series.start
   pub member : IsRuleMember series.rule series.start m
   pub kept : IsKept series from to m
 
--- a repeat that the rule's end leaves
+-- a repeat within the end of the rule
 pub record IsRepeatOf (series : Series) (rule : Rule) (from to : ℤ) (m : Moment) : Type 0 where
   pub repeat : IsRepeat rule series.start m
   pub within : IsWithinEnd rule.end (IsCandidate rule series.start) m
   pub kept : IsKept series from to m
 
--- a repeat on one of these days, the last not among them, where UNTIL leaves it and it isn't excluded
+-- a repeat on one of these days, `end` not among them, if UNTIL leaves it and it isn't excluded
 pub record IsBetween (series : Series) (rule : Rule) (from end : ℤ) (m : Moment) : Type 0 where
   pub repeat : IsRepeat rule series.start m
   pub not_before : from ≤ℤ moment_day m
@@ -58,14 +58,14 @@ pub record IsBetween (series : Series) (rule : Rule) (from end : ℤ) (m : Momen
   pub up_to : IsUpTo rule.end m
   pub stays : Contains series.exdates m → ⊥
 
--- the moment of that day with the start's time of day, where UNTIL leaves it and it isn't excluded
+-- the moment of that day with the start's time of day, if UNTIL leaves it and it isn't excluded
 pub record IsOnDay (series : Series) (rule : Rule) (day : ℤ) (m : Moment) : Type 0 where
   pub time : HasTimeOf series.start m
   pub day_is : moment_day m ≡ day
   pub up_to : IsUpTo rule.end m
   pub stays : Contains series.exdates m → ⊥
 
--- this moment, where it is kept
+-- this moment, if it is kept
 pub record IsThis (series : Series) (from to : ℤ) (moment m : Moment) : Type 0 where
   pub is : m ≡ moment
   pub kept : IsKept series from to m
@@ -80,12 +80,12 @@ pub record IsMemberIn (series : Series) (from to : ℤ) (m : Moment) : Type 0 wh
   pub member : IsRuleMember series.rule series.start m
   pub kept : IsKept series from to m
 
--- a step that adds the moments that are P, or finds too many
+-- a step that adds the moments for which P holds, or finds too many
 abbrev pub IsStep : {T : Type 0} → ℕ → (Moment → Type 0) → List Moment → List Moment → Result T RecurError → Type 0
 IsStep limit P old new (Ok x) = Adds limit P old new
 IsStep limit P old new (Err e) = IfTooMany e (Exceeds limit P old new)
 
--- a step that gives the moments that there were and those that are P, or finds too many
+-- a step that returns the old moments and those for which P holds, or finds too many
 abbrev pub IsGrown : ℕ → (Moment → Type 0) → List Moment → Result Ascending RecurError → Type 0
 IsGrown limit P old (Ok found) = Adds limit P old found.moments.items
 IsGrown limit P old (Err e) = IfTooMany e ((new : List Moment) × Exceeds limit P old new)

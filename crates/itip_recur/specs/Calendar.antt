@@ -13,7 +13,7 @@ days_from_zero day = unsigned_abs (day +ℤ pos 719_528)
 abbrev pub weekday_number : ℤ → ℕ
 weekday_number day = (days_from_zero day + 5) % 7
 
--- the number of the day's week, where weeks begin on this weekday; the week with 0000-01-01 has the number 0 or 1
+-- the number of the day's week, if weeks begin on this weekday; the week with 0000-01-01 has the number 0 or 1
 abbrev pub week_number : Weekday → ℤ → ℕ
 week_number first day = (days_from_zero day + 12 - monday_zero first) / 7
 

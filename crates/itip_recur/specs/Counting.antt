@@ -7,7 +7,7 @@ use Rattle.itip_recur.specs.declared.rule.Rule.{Rule}
 use Rattle.itip_recur.specs.Pattern.{InPattern, IsLaterDay}
 use Rattle.itip_recur.specs.Walk.{IsNoDay, IsNextDay, AreFewerDays, IsEarlier}
 
--- the days of the rule before `day` are so many, and each of them has fewer than `count` before it
+-- the rule has `seen` days before `day`, and each of them after the start has fewer than `count` before it
 pub record Counted (rule : Rule) (start : ℤ) (count seen : ℕ) (day : ℤ) : Type 0 where
   pub after : start <ℤ day
   pub days : List Day
@@ -16,16 +16,16 @@ pub record Counted (rule : Rule) (start : ℤ) (count seen : ℕ) (day : ℤ) : 
   pub many : length days ≡ seen
   pub inside : (d : ℤ) → IsLaterDay rule start d → d <ℤ day → AreFewerDays (IsEarlier rule start d) count
 
--- so many days of the pattern lie from `from` on and before `end`
+-- `count` days of the pattern lie from `from` on and before `end`
 abbrev pub Walked : Rule → ℤ → ℤ → ℕ → ℤ → Type 0
 Walked rule start from zero end = (from ≤ℤ end) × IsNoDay rule start from end
 Walked rule start from (suc count) end = (found : ℤ) × IsNextDay rule start from end found × Walked rule start (found +ℤ pos 1) count end
 
--- a day is in the pattern exactly where the day so many days later is
+-- a day is in the pattern exactly when the day `period` days later is
 abbrev pub IsPeriod : Rule → ℤ → Type 0
 IsPeriod rule period = (start day : ℤ) → neg_ℤ (pos 719_528) ≤ℤ day → InPattern rule start day ↔ InPattern rule start (day +ℤ period)
 
--- so many periods, each of so many days and of so many seen, as have room
+-- some periods for which there is room, each of `period` days of which `seen` are in the pattern
 pub record IsPassed (seen period count days all_seen all_days : ℕ) : Type 0 where
   pub times : ℕ
   pub seen_is : all_seen ≡ times * seen

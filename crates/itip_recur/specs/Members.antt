@@ -11,7 +11,7 @@ use Rattle.itip_recur.specs.declared.rule.End.TheVariants.{Never, Count, Until}
 use Rattle.itip_recur.specs.declared.series.Series.{Series}
 use Rattle.itip_recur.specs.Pattern.{IsLaterDay}
 
--- both have one form, one zone and one second of the day
+-- both have the same form, zone and second of the day
 pub record HasTimeOf (start m : Moment) : Type 0 where
   pub form : moment_form m ≡ moment_form start
   pub second : moment_second m ≡ moment_second start
@@ -22,11 +22,11 @@ pub record IsRepeat (rule : Rule) (start m : Moment) : Type 0 where
   pub same_time : HasTimeOf start m
   pub day : IsLaterDay rule (moment_day start) (moment_day m)
 
--- what COUNT counts: the start, also where it is outside the pattern, and each repeat
+-- what COUNT counts: the start, even if it is outside the pattern, and each repeat
 abbrev pub IsCandidate : Rule → Moment → Moment → Type 0
 IsCandidate rule start m = (m ≡ start) ⊎ IsRepeat rule start m
 
--- fewer than so many moments are P
+-- P holds for fewer than `count` moments
 pub record AreFewer (P : Moment → Type 0) (count : ℕ) : Type 0 where
   pub all : List Moment
   pub each : (m : Moment) → P m → Contains all m
@@ -42,7 +42,7 @@ pub record IsMember (rule : Rule) (start m : Moment) : Type 0 where
   pub candidate : IsCandidate rule start m
   pub within : IsWithinEnd rule.end (IsCandidate rule start) m
 
--- without a rule the start is the one member
+-- without a rule the start is the only member
 abbrev pub IsRuleMember : Option Rule → Moment → Moment → Type 0
 IsRuleMember None start m = m ≡ start
 IsRuleMember (Some rule) start m = IsMember rule start m

@@ -39,11 +39,11 @@ pub record IsFirstOfOwn (rule : Rule) (start first : ℤ) : Type 0 where
 abbrev pub month_shape : ℤ → ℕ
 month_shape day = 7 * month_length day + weekday_number day
 
--- stands for a shape that was not met
+-- marks a shape that was not met yet
 abbrev pub unknown : ℕ
 unknown = 4_294_967_295
 
--- of each shape that was met, so many days of the pattern lie in each month of its own that has the shape
+-- for each shape that was met, how many days of the pattern lie in each of the rule's own months with this shape
 abbrev pub AreMet : Rule → ℤ → List ℕ → Type 0
 AreMet rule start met = (first : ℤ) → IsFirstOfOwn rule start first → slice_index met (month_shape first) ≢ unknown →
     Walked rule start first (slice_index met (month_shape first)) (first +ℤ pos (month_length first))

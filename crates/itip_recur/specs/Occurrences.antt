@@ -14,7 +14,7 @@ use Rattle.itip_recur.specs.Members.{Occurs}
 abbrev pub occurrence_limit : ℕ
 occurrence_limit = 100_000
 
--- a moment of the series whose day lies in the window, the last day not in it
+-- a moment of the series whose day lies in the window, from `from` up to but not including `to`
 pub record OccursIn (series : Series) (from to : ℤ) (m : Moment) : Type 0 where
   pub occurs : Occurs series m
   pub not_before : from ≤ℤ moment_day m
@@ -25,14 +25,14 @@ pub record AreOccurrences (series : Series) (from to : ℤ) (moments : List Mome
   pub ascending : IsStrictlySortedBy moment_cmp moments
   pub exactly : (m : Moment) → Contains moments m ↔ OccursIn series from to m
 
--- more than so many moments of the series lie in the window
+-- more than `limit` moments of the series lie in the window
 pub record AreOver (limit : ℕ) (series : Series) (from to : ℤ) : Type 0 where
   pub some : List Moment
   pub ascending : IsStrictlySortedBy moment_cmp some
   pub each : (m : Moment) → Contains some m → OccursIn series from to m
   pub many : limit < length some
 
--- the fact, where occurrences are refused for their number
+-- P holds if occurrences are refused for their number
 abbrev pub IfTooMany : RecurError → Type 0 → Type 0
 IfTooMany TooMany P = P
 IfTooMany NoMemory P = Unit {0}

@@ -26,7 +26,7 @@ unit_number (Weekly days) week_start day = week_number week_start day
 unit_number (Monthly days) week_start day = month_number day
 unit_number (Yearly days) week_start day = year_number day
 
--- the day's place in its month, counted from 1 from the side that the place names
+-- the day's place in its month, from 1, counted from the side that the place names
 abbrev pub counted : Place → ℤ → ℕ
 counted (FromFirst n) day = day_of_month day
 counted (FromLast n) day = month_length day + 1 - day_of_month day
@@ -41,7 +41,7 @@ IsAtPlace place day = counted place day ≡ ordinal place
 abbrev pub IsOnWeekday : Weekday → ℤ → Type 0
 IsOnWeekday weekday day = weekday_number day ≡ monday_zero weekday
 
--- the day lies in the so-manieth seven days of its month, so it is the so-manieth of its weekday
+-- the day lies in the nth seven days of its month, so it is the nth of its weekday
 pub record IsInSeven (place : Place) (day : ℤ) : Type 0 where
   pub after : 7 * (ordinal place - 1) < counted place day
   pub within : counted place day ≤ 7 * ordinal place
@@ -54,7 +54,7 @@ abbrev pub IsWeekDay : WeekDays → ℤ → ℤ → Type 0
 IsWeekDay week.OfStart start day = weekday_number day ≡ weekday_number start
 IsWeekDay (week.Listed days) start day = Any (λ weekday. IsOnWeekday weekday day) days
 
--- the start's day of the month: a month that is shorter has none
+-- for the start's day of the month, a month that is shorter has none
 abbrev pub IsMonthDay : MonthDays → ℤ → ℤ → Type 0
 IsMonthDay month.OfStart start day = day_of_month day ≡ day_of_month start
 IsMonthDay (month.Listed days) start day = Any (λ place. IsAtPlace place day) days
@@ -82,6 +82,6 @@ pub record IsLaterDay (rule : Rule) (start day : ℤ) : Type 0 where
   pub later : start <ℤ day
   pub in_pattern : InPattern rule start day
 
--- a day of the rule: the start, also where it is outside the pattern, or a later day of the pattern
+-- a day of the rule: the start, even if it is outside the pattern, or a later day of the pattern
 abbrev pub IsRuleDay : Rule → ℤ → ℤ → Type 0
 IsRuleDay rule start day = (day ≡ start) ⊎ IsLaterDay rule start day

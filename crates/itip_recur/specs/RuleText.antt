@@ -27,11 +27,11 @@ use Rattle.itip_recur.specs.declared.rule.MonthWeekday.TheVariants.{Every, Nth}
 use Rattle.itip_recur.specs.declared.rule.End.{End}
 use Rattle.itip_recur.specs.declared.rule.End.TheVariants.{Never, Count, Until}
 
--- the parts of a rule, with ';' between each two
+-- the parts of a rule, separated by ';'
 abbrev pub rule_parts : List ℕ → List (List ℕ)
 rule_parts text = slice_split (λ c. c == 59) text
 
--- the elements of a list, with ',' between each two
+-- the elements of a list, separated by ','
 abbrev pub elements : List ℕ → List (List ℕ)
 elements value = slice_split (λ c. c == 44) value
 
@@ -40,26 +40,26 @@ abbrev pub part_names : List (List ℕ)
 part_names = codes "FREQ" ∷ codes "INTERVAL" ∷ codes "COUNT" ∷ codes "UNTIL" ∷ codes "WKST" ∷ codes "BYDAY" ∷ codes "BYMONTHDAY" ∷
     codes "BYMONTH" ∷ []
 
--- what stands before the first '=' of the part is the name, in letters of either case
+-- the text before the first '=' of the part is the name, in either case
 abbrev pub has_name : List ℕ → List ℕ → Bool
 has_name name part = nat_lt (position_or_len (λ c. c == 61) part) (length part) &&
     pointwise nat_eq (map to_ascii_lowercase (before_first (λ c. c == 61) part)) (map to_ascii_lowercase name)
 
--- what stands behind the first '=' of a part, where it has one
+-- the text after the first '=' of a part, if it has one
 abbrev pub part_value : List ℕ → Option (List ℕ)
 part_value part = if nat_lt (position_or_len (λ c. c == 61) part) (length part) then Some (after_first (λ c. c == 61) part) else None
 
--- the value of the part of this name, where there is one
+-- the value of the part with this name, if there is one
 abbrev pub value_of : List ℕ → List (List ℕ) → Option (List ℕ)
 value_of name parts = option_and_then part_value (find (has_name name) parts)
 
--- each part has one of the names, and no name stands twice
+-- each part has one of the names, and no name appears twice
 abbrev pub are_parts : List (List ℕ) → Bool
 are_parts parts =
     list_all (λ part. list_any (λ name. has_name name part) part_names) parts
     && list_all (λ name. nat_le (count_by (has_name name) parts) 1) part_names
 
--- the text is this word, in letters of either case
+-- the text is this word, in either case
 abbrev pub IsWord : List ℕ → List ℕ → Type 0
 IsWord word text = map to_ascii_lowercase text ≡ map to_ascii_lowercase word
 
@@ -75,19 +75,19 @@ weekday_word Sunday = codes "SU"
 abbrev pub IsWeekdayText : List ℕ → Weekday → Type 0
 IsWeekdayText text weekday = str_to_ascii_uppercase text ≡ weekday_word weekday
 
--- one or more digits, of a number from 1 to the limit
+-- one or more digits that spell a number from 1 to the limit
 pub record IsNumberText (limit : ℕ) (text : List ℕ) (n : ℕ) : Type 0 where
   pub digits : IsNumeral 10 text
   pub value : n ≡ digits_value 10 text
   pub positive : 1 ≤ n
   pub small : n ≤ limit
 
--- a number without a sign or behind '+' from the front, behind '-' from the end
+-- a number, counted from the front without a sign or after '+', and from the end after '-'
 abbrev pub IsPlaceText : ℕ → List ℕ → Place → Type 0
 IsPlaceText limit text (FromFirst n) = IsNumberText limit text n ⊎ ((rest : List ℕ) × (text ≡ 43 ∷ rest) × IsNumberText limit rest n)
 IsPlaceText limit text (FromLast n) = (rest : List ℕ) × (text ≡ 45 ∷ rest) × IsNumberText limit rest n
 
--- a place up to 5 and behind it a weekday
+-- a place up to 5, followed by a weekday
 pub record IsNthText (text : List ℕ) (place : Place) (weekday : Weekday) : Type 0 where
   pub front : List ℕ
   pub back : List ℕ
@@ -115,7 +115,7 @@ AreMonths value months = AllZip (IsNumberText 12) (elements value) months
 abbrev pub IsAbsent : Option (List ℕ) → Type 0
 IsAbsent part = part ≡ None
 
--- a part that is there, with a value that is P
+-- a part that is present, with a value for which P holds
 abbrev pub IsGiven : (List ℕ → Type 0) → Option (List ℕ) → Type 0
 IsGiven P part = MatchOption part ⊥ P
 
@@ -130,7 +130,7 @@ AreMonthParts by_month_day by_day month.OfStart = IsAbsent by_month_day × IsAbs
 AreMonthParts by_month_day by_day (month.Listed days) = IsGiven (λ value. AreMonthDays value days) by_month_day × IsAbsent by_day
 AreMonthParts by_month_day by_day (month.Weekdays days) = IsAbsent by_month_day × IsGiven (λ value. AreMonthWeekdays value days) by_day
 
--- BYMONTH and BYMONTHDAY of a yearly rule: both or none
+-- BYMONTH and BYMONTHDAY of a yearly rule: both or neither
 abbrev pub AreYearParts : Option (List ℕ) → Option (List ℕ) → YearDays → Type 0
 AreYearParts by_month by_month_day year.OfStart = IsAbsent by_month × IsAbsent by_month_day
 AreYearParts by_month by_month_day (year.Listed months days) = IsGiven (λ value. AreMonths value months) by_month ×
@@ -154,11 +154,11 @@ IsFrequencyOf parts (Yearly days) =
     IsGiven (IsWord (codes "YEARLY")) (value_of (codes "FREQ") parts)
     × AreYearParts (value_of (codes "BYMONTH") parts) (value_of (codes "BYMONTHDAY") parts) days × IsAbsent (value_of (codes "BYDAY") parts)
 
--- INTERVAL, 1 where it is absent
+-- INTERVAL, or 1 if it is absent
 abbrev pub IsInterval : Option (List ℕ) → ℕ → Type 0
 IsInterval part n = MatchOption part (n ≡ 1) (λ value. IsNumberText 10_000 value n)
 
--- WKST, Monday where it is absent
+-- WKST, or Monday if it is absent
 abbrev pub IsWeekStart : Option (List ℕ) → Weekday → Type 0
 IsWeekStart part weekday = MatchOption part (weekday ≡ Monday) (λ value. IsWeekdayText value weekday)
 

@@ -31,7 +31,7 @@ abbrev pub place_number : Place → ℕ
 place_number (FromFirst n) = 2 * n
 place_number (FromLast n) = 2 * n + 1
 
--- the numbers of the weekdays at a place stand side by side, behind the seven of the weekdays without one
+-- the numbers of the weekdays at one place are adjacent, after the seven of the weekdays without a place
 abbrev pub nth_number : ℕ → ℕ → ℕ
 nth_number place weekday = 7 * (1 + place) + weekday
 
@@ -78,11 +78,11 @@ has_month (Yearly days) n = names_month days n
 abbrev pub AreSetsOf : Frequency → DaySets → Type 0
 AreSetsOf frequency sets = IsSet (has_day frequency) sets.days × IsSet (has_month frequency) sets.months
 
--- the day's place in its month, counted from 1 from the end
+-- the day's place in its month, from 1, counted from the end
 abbrev pub from_last : ℤ → ℕ
 from_last day = month_length day + 1 - day_of_month day
 
--- in which seven a place lies
+-- which seven days of its month a place lies in, from 1
 abbrev pub seven : ℕ → ℕ
 seven place = (place - 1) / 7 + 1
 
@@ -94,10 +94,10 @@ nth_first day = nth_number (2 * seven (day_of_month day)) (weekday_number day)
 abbrev pub nth_last : ℤ → ℕ
 nth_last day = nth_number (2 * seven (from_last day) + 1) (weekday_number day)
 
--- a set of places has one of the day's
+-- a set of places has that of the day, from the front or from the end
 abbrev pub has_place : ℕ → ℤ → Bool
 has_place set day = has_number set (2 * day_of_month day) || has_number set (2 * from_last day + 1)
 
--- a set of weekdays of a month has the day's, with no place or with one of its places
+-- a set of weekdays of a month has that of the day, without a place or with one of its places
 abbrev pub has_weekday : ℕ → ℤ → Bool
 has_weekday set day = has_number set (weekday_number day) || (has_number set (nth_first day) || has_number set (nth_last day))

@@ -41,7 +41,7 @@ pub record IsSeriesOf (todo : Todo) (series : Series) : Type 0 where
   pub exdates : series.exdates ≡ todo.exdates
   pub no_period : HasPeriod todo → ⊥
 
--- single without recurrence; with it the series, or opaque where there is none
+-- single without recurrence; with it the series, or opaque if there is none
 abbrev pub IsShape : Todo → Shape → Type 0
 IsShape todo Single = Recurs todo → ⊥
 IsShape todo Opaque = Recurs todo × ((series : Series) → IsSeriesOf todo series → ⊥)

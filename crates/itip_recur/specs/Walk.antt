@@ -16,35 +16,35 @@ use Rattle.itip_recur.specs.Pattern.{unit_number, InPattern, IsLaterDay, IsRuleD
 abbrev pub IsNoDay : Rule → ℤ → ℤ → ℤ → Type 0
 IsNoDay rule start from end = (day : ℤ) → from ≤ℤ day → day <ℤ end → InPattern rule start day → ⊥
 
--- the first day of the pattern from `from` on lies before `end`
+-- the first day of the pattern from `from` on, which lies before `end`
 pub record IsNextDay (rule : Rule) (start from end day : ℤ) : Type 0 where
   pub not_before : from ≤ℤ day
   pub before_end : day <ℤ end
   pub in_pattern : InPattern rule start day
   pub first : IsNoDay rule start from day
 
--- fewer than so many days are P
+-- P holds for fewer than `count` days
 pub record AreFewerDays (P : ℤ → Type 0) (count : ℕ) : Type 0 where
   pub all : List Day
   pub each : (day : Day) → P day.number → Contains all day
   pub few : length all < count
 
--- a day of the rule, the start among them, before another
+-- a day of the rule, which may be the start, before another day
 abbrev pub IsEarlier : Rule → ℤ → ℤ → ℤ → Type 0
 IsEarlier rule start day e = IsRuleDay rule start e × (e <ℤ day)
 
--- of the later days of the pattern that lie before `end`, those before `last` have fewer than so many earlier days, and no other has
+-- of the later days of the pattern that lie before `end`, those before `last` have fewer than `count` earlier days, and no other has
 pub record IsEndOfCount (rule : Rule) (start : ℤ) (count : ℕ) (end last : ℤ) : Type 0 where
   pub inside : (day : ℤ) → IsLaterDay rule start day → day <ℤ end → day <ℤ last → AreFewerDays (IsEarlier rule start day) count
   pub outside : (day : ℤ) → IsLaterDay rule start day → day <ℤ end → last ≤ℤ day → AreFewerDays (IsEarlier rule start day) count → ⊥
 
--- UNTIL, where there is one, is not before the moment
+-- UNTIL, if there is one, is not before the moment
 abbrev pub IsUpTo : End → Moment → Type 0
 IsUpTo Never m = Unit {0}
 IsUpTo (Count n) m = Unit {0}
 IsUpTo (Until last) m = moment_cmp m last ≢ Greater
 
--- `first` is the first day from `day` on in a unit of the rule's own, whose number is `unit`, or the end of the calendar
+-- `first` is the first day from `day` on in one of the rule's own units, whose number is `unit`, or the end of the calendar
 pub record IsUnitFrom (rule : Rule) (start day : ℤ) (unit : ℕ) (first : ℤ) : Type 0 where
   pub bounds : IsDayOrEnd first
   pub not_before : day ≤ℤ first

@@ -30,7 +30,7 @@ impl Ascending {
         }
     }
 
-    /// The moments given, put in order.
+    /// The given moments in ascending order, each once.
     pub(crate) fn of_moments(moments: Vec<Moment>) -> Result<Ascending, NoMemory>
         ensures { IfOk result (λ all. (m : Moment) → Contains all.moments.items m ↔ Contains moments.items m) }
     {
@@ -40,7 +40,7 @@ impl Ascending {
         Ok(Ascending { moments })
     }
 
-    /// Adds a moment of a later day than all; `TooMany` where that is one more than the limit.
+    /// Adds a moment of a later day than all others; `TooMany` if there are then more than `limit`.
     pub(crate) fn add(&mut self, moment: Moment, limit: usize) -> Result<(), RecurError>
         requires later { (m : Moment) → Contains self.old.moments.items m → moment_day m <ℤ moment_day moment }
         ensures { IsStep limit (λ m. m ≡ moment) self.old.moments.items self.new.moments.items result }

@@ -1,4 +1,4 @@
-//! The weekday, the week, the month and the year of a day by its number.
+//! The weekday, the week, the month and the year of a day that is given by its number.
 ghost use Rattle.std.specs.Prelude.{◌≡◌, ◌<◌, ◌≤◌, ◌↔◌, ◌*◌, ◌+◌, ◌-◌, ◌/◌, ◌%◌, ◌^◌, ℤ, pos, ◌<ℤ◌, ◌≤ℤ◌, ◌+ℤ◌, MatchOption};
 ghost use Rattle.itip_moment.specs.Years.{IsDayNumber};
 ghost use Rattle.std.specs.Int.{IsInRange};
@@ -10,10 +10,10 @@ use crate::Weekday;
 use itip_moment::Day;
 use jiff_core::civil::{self, Date};
 
-/// The number of the day after the last of the calendar, 9999-12-31.
+/// The number of the day after 9999-12-31, the last day of the calendar.
 pub(crate) const CALENDAR_END: i32 = 2_932_897;
 
-/// The number of 0000-01-01 is below 0 by so many.
+/// The number of days from 0000-01-01 to 1970-01-01.
 const DAYS_BEFORE_EPOCH: i32 = 719_528;
 
 /// A day with its date.
@@ -49,7 +49,7 @@ impl CalendarDay {
         }
     }
 
-    /// The date so many days later. It is worked out anew only behind the next month.
+    /// The date `days` days later. It is computed from the number alone only if it is after the next month.
     pub(crate) fn later(&self, days: i32) -> CalendarDay
         requires positive { pos 0 <ℤ days }
         requires high { days ≤ℤ pos 37 }
@@ -130,7 +130,7 @@ fn days_in_month(year: u32, month: u8) -> u8
     civil::days_in_month(year as i16, month)
 }
 
-/// The day with this date; `None` where the month has fewer days.
+/// The day with this date; `None` if the month has fewer days.
 pub(crate) fn day_of_date(year: u32, month: u8, day: u8) -> Option<i32>
     requires year_in { year < 10_000 }
     requires month_in { IsInRange 1 12 month }
@@ -183,7 +183,7 @@ pub(crate) fn week_number(first: Weekday, day: i32) -> u32
     (days_from_zero(day) + 12 - first.index() as u32) / 7
 }
 
-/// The day with so many days since 0000-01-01, or the end of the calendar.
+/// The day that is `days` days after 0000-01-01, or the end of the calendar.
 #[tactic(auto, unfolding(crate::specs::Calendar::days_from_zero))]
 pub(crate) fn day_at(days: u32) -> i32
     ensures bounds { IsDayOrEnd result }

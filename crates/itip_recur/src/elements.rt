@@ -16,7 +16,7 @@ pub(crate) trait Element: Drop {
     /// The text spells the value.
     ghost spells: { List ℕ → Self → Type 0 };
 
-    /// The value that a text spells, where it spells one.
+    /// The value that a text spells, if any.
     fn read(text: &[u8]) -> Option<Self>
         ensures { MatchOption result ((value : Self) → spells text.now value → ⊥) (spells text.now) };
 }
@@ -57,7 +57,7 @@ impl Element for u8 {
     }
 }
 
-/// One or more digits, of a number from 1 to the limit.
+/// Reads one or more digits that spell a number from 1 to `limit`.
 pub(crate) fn read_number(text: &[u8], limit: u32) -> Option<u32>
     ensures { MatchOption result ((n : ℕ) → IsNumberText limit text.now n → ⊥) (IsNumberText limit text.now) }
 {
@@ -70,7 +70,7 @@ pub(crate) fn read_number(text: &[u8], limit: u32) -> Option<u32>
     }
 }
 
-/// A number from 1 to the limit, counted from the end behind `-`.
+/// Reads a number from 1 to `limit` with an optional sign; after `-` it counts from the end.
 pub(crate) fn read_place(text: &[u8], limit: u8) -> Option<Place>
     ensures { MatchOption result ((p : Place) → IsPlaceText limit text.now p → ⊥) (IsPlaceText limit text.now) }
 {
@@ -87,7 +87,7 @@ pub(crate) fn read_small(text: &[u8], limit: u8) -> Option<u8>
     Some(read_number(text, limit as u32)? as u8)
 }
 
-/// The first two letters of a weekday, in either case.
+/// Reads the first two letters of a weekday, in either case.
 pub(crate) fn read_weekday(text: &[u8]) -> Option<Weekday>
     ensures { MatchOption result ((w : Weekday) → IsWeekdayText text.now w → ⊥) (IsWeekdayText text.now) }
 {
@@ -106,7 +106,7 @@ pub(crate) fn read_weekday(text: &[u8]) -> Option<Weekday>
     }
 }
 
-/// A weekday, and before it perhaps a place up to 5.
+/// Reads a weekday, perhaps preceded by a place up to 5.
 pub(crate) fn read_month_weekday(text: &[u8]) -> Option<MonthWeekday>
     ensures { MatchOption result ((w : MonthWeekday) → IsMonthWeekdayText text.now w → ⊥) (IsMonthWeekdayText text.now) }
 {
@@ -120,7 +120,7 @@ pub(crate) fn read_month_weekday(text: &[u8]) -> Option<MonthWeekday>
     }
 }
 
-// The first element of a list of more than one, and what stands behind its comma.
+// The first element of a list of more than one, and what follows its comma.
 fn first_element<'a>(value: &'a str) -> Option<(&'a str, &'a str)>
     ensures { MatchOption result (elements value.now ≡ value.now ∷ [])
         (λ p. (elements value.now ≡ p.0.now ∷ elements p.1.now) × (value.now ≡ p.0.now ++ 44 ∷ p.1.now)) }
@@ -128,7 +128,7 @@ fn first_element<'a>(value: &'a str) -> Option<(&'a str, &'a str)>
     value.split_once(',')
 }
 
-/// The values of a list's elements; none where an element spells none.
+/// The values of a list's elements; `None` if some element spells no value.
 pub(crate) fn read_list<T: Element>(
     alloc: Global,
     value: &str,

@@ -1,11 +1,11 @@
-//! Recurrence of a to-do (RFC 5545 3.3.10, a profile of it): which rule a text is, and which moments a series has.
+//! Recurrence of a to-do (RFC 5545 3.3.10, a profile of it): which rule a text spells, and which moments a series has.
 //!
 //! [`read_rule`] reads a rule of the profile; any other text is opaque. [`shape`] says whether a to-do is
 //! single, opaque or repeats as a [`Series`]. [`occurrences`] lists the moments of a series in a window of
 //! days, at most 100,000, and [`all_occurrences`] without that limit; [`is_day`] asks for one day.
 //!
-//! The lists of a rule are read once, as sets, so their repeats cost nothing more. A window far from the start
-//! costs no step for each occurrence before it; with COUNT it costs a step for each month before it at most.
+//! The lists of a rule are read once, as sets, so repeated values cost nothing more. A window far from the start
+//! costs nothing for the occurrences before it; with COUNT it costs at most one step for each month before it.
 #![tactic(auto)]
 
 mod ascending;

@@ -24,8 +24,8 @@ const OCCURRENCE_LIMIT: usize = 100_000;
 
 /// The moments of a series whose day lies in a window, ascending, each once, at most 100,000.
 ///
-/// Days are numbered from 1970-01-01, and the day `to` is not in the window. `TooMany` as soon as more
-/// than 100,000 are found, and `NoMemory` when out of memory.
+/// Days are numbered from 1970-01-01, and the day `to` is not in the window. Returns [`RecurError::TooMany`] if more than
+/// 100,000 are found, and [`RecurError::NoMemory`] when out of memory.
 pub fn occurrences(
     alloc: Global,
     series: &Series,
@@ -39,9 +39,9 @@ pub fn occurrences(
     listed(alloc, series, from, to, OCCURRENCE_LIMIT)
 }
 
-/// All moments of a series whose day lies in a window, as [`occurrences`] lists them, without its limit.
+/// All moments of a series whose day lies in a window, like [`occurrences`] but without its limit.
 ///
-/// For a caller that leaves some of them out and has a limit of its own. An error only when out of memory.
+/// For callers that leave some of them out and have a limit of their own. Fails only when out of memory.
 pub fn all_occurrences(
     alloc: Global,
     series: &Series,
@@ -50,11 +50,11 @@ pub fn all_occurrences(
 ) -> Result<Vec<Moment>, NoMemory>
     ensures { IfOk result (λ v. AreOccurrences series.now from to v.items) }
 {
-    // No set has more than `usize::MAX` moments, so only memory is refused.
+    // No list has more than `usize::MAX` moments, so the only error is out of memory.
     listed(alloc, series, from, to, usize::MAX).map_err(|_| AllocError)
 }
 
-// The moments of the window where there are no more than `limit`.
+// The moments in the window, if there are at most `limit`.
 fn listed(
     alloc: Global,
     series: &Series,
@@ -146,7 +146,7 @@ fn add_repeats(
     add_between(found, series, rule, window_day(start, from), end, limit)
 }
 
-// A day of a window, moved to the days behind the start.
+// A day of a window, limited to the days after the start and up to the end of the calendar.
 fn window_day(start: i32, day: i32) -> i32
     requires { IsDayNumber start }
     ensures bounds { IsDayOrEnd result }
@@ -207,7 +207,7 @@ fn add_on_day(
     }
 }
 
-// With the added moments of the window among those that were found.
+// Adds the moments of RDATE in the window to those that were found.
 fn with_rdates(
     found: Ascending,
     series: &Series,

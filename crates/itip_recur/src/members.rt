@@ -1,4 +1,4 @@
-//! The walk over the days of a rule.
+//! Where the repeats of a rule end, and the moment of a repeat on its day.
 ghost use Rattle.std.specs.Prelude.{◌≡◌, ◌≢◌, ◌↔◌, ◌<◌, ◌⊎◌, ℕ, ℤ, ◌≤ℤ◌, ◌<ℤ◌, pos, ◌+ℤ◌, IsTrue, IfOk, MatchOption};
 ghost use Rattle.std.specs.declared.cmp.Ordering.TheVariants.{Greater};
 ghost use Rattle.itip_moment.specs.Years.{IsDayNumber};
@@ -16,7 +16,7 @@ use crate::walk::Walk;
 use itip_moment::{Day, Moment, Stamp};
 use std::cmp::Ordering;
 
-/// The end of the later days that COUNT leaves to a rule, where no more than those before `end` are wanted.
+/// The end of the later days that COUNT leaves to a rule, if only those before `end` are wanted.
 pub(crate) fn end_of_count(rule: &Rule, start: i32, count: u32, end: i32) -> i32
     requires start_in { IsDayNumber start }
     requires end_in { IsDayOrEnd end }
@@ -39,7 +39,7 @@ pub(crate) fn end_of_count(rule: &Rule, start: i32, count: u32, end: i32) -> i32
     day
 }
 
-/// The moment on another day with the time of day and the zone of this one.
+/// The moment on another day, with the form, the time of day and the zone of this one.
 pub(crate) fn on_day(start: &Moment, day: i32) -> Result<Moment, NoMemory>
     requires { IsDayNumber day }
     ensures day { IfOk result (λ m. moment_day m ≡ day) }
@@ -65,7 +65,7 @@ pub(crate) fn on_day(start: &Moment, day: i32) -> Result<Moment, NoMemory>
     })
 }
 
-/// The end of the days of the rule's repeats that lie before `end`; UNTIL may cut off the last one.
+/// The end of the days of the rule's repeats before `end`; UNTIL may cut off the last one.
 pub(crate) fn end_of_days(rule: &Rule, start: &Moment, end: i32) -> i32
     requires { IsDayOrEnd end }
     ensures bounds { IsDayOrEnd result }
@@ -77,7 +77,7 @@ pub(crate) fn end_of_days(rule: &Rule, start: &Moment, end: i32) -> i32
     if last < end { last } else { end }
 }
 
-// As `end_of_days`, for the repeats before `end` alone.
+// Like `end_of_days`, but only for the repeats before `end`.
 fn end_of_rule(rule: &Rule, start: &Moment, end: i32) -> i32
     requires { IsDayOrEnd end }
     ensures bounds { IsDayOrEnd result }
@@ -97,7 +97,7 @@ fn end_of_rule(rule: &Rule, start: &Moment, end: i32) -> i32
     }
 }
 
-/// Whether UNTIL, where there is one, leaves a moment to the rule.
+/// Whether UNTIL leaves a moment to the rule; true if there is none.
 pub(crate) fn is_up_to(end: &End, moment: &Moment) -> bool
     ensures { IsTrue result ↔ IsUpTo end.now moment.now }
 {

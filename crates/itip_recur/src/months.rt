@@ -1,4 +1,4 @@
-//! Whole months of a rule that counts by months or years, told by their shapes and not walked through day by day.
+//! Whole months of a rule that counts by months or years, counted by their shapes and not day by day.
 ghost use Rattle.std.specs.Prelude.{◌≡◌, ◌↔◌, ◌+◌, ◌<◌, ◌≤◌, ◌^◌, pos, ◌+ℤ◌, ◌≤ℤ◌, IsTrue};
 ghost use Rattle.itip_moment.specs.Years.{IsDayNumber};
 ghost use Rattle.itip_recur.specs.Calendar.{IsDayOrEnd, day_of_month, month_length};
@@ -15,10 +15,10 @@ use crate::walk::Walk;
 /// A month has at most 31 days and begins on one of seven weekdays.
 const SHAPES: usize = 224;
 
-/// Stands for a shape that was not met.
+/// Marks a shape that was not met yet.
 const UNKNOWN: u32 = u32::MAX;
 
-/// As many whole periods or months behind the start as COUNT leaves room for and lie before `end`.
+/// As many whole periods or months after the start as COUNT leaves room for and as lie before `end`.
 pub(crate) fn passed_days(walk: &Walk<'_>, count: u32, end: i32) -> Passed
     requires end_in { IsDayOrEnd end }
     ensures fits { 1 + result.seen < 2 ^ 32 }
@@ -42,7 +42,7 @@ fn is_by_months(frequency: &Frequency) -> bool
     }
 }
 
-// The rest of the start's month, and whole months behind it.
+// The rest of the start's month, and whole months after it.
 fn passed_months(walk: &Walk<'_>, count: u32, end: i32) -> Passed
     requires by_months { IsByMonths walk.now.rule.now.frequency }
     requires end_in { IsDayOrEnd end }
@@ -69,7 +69,7 @@ fn passed_months(walk: &Walk<'_>, count: u32, end: i32) -> Passed
     }
 }
 
-// How many days there are from a day on and before another.
+// The number of days from one day to another.
 fn days_between(from: i32, to: i32) -> u32
     requires from_in { IsDayOrEnd from }
     requires to_in { IsDayOrEnd to }
@@ -119,8 +119,8 @@ fn pass_months(walk: &Walk<'_>, count: u32, end: i32, before: u32, from: Calenda
     }
 }
 
-// How many days of the pattern lie in a month, from its first day on. Months of one shape have equally many, so each shape
-// is walked through once.
+// How many days of the pattern lie in the month that begins with `first`. Months of one shape have equally many, so each shape
+// is walked through only once.
 fn seen_in_month(walk: &Walk<'_>, met: &mut [u32; SHAPES], first: &CalendarDay) -> u32
     requires by_months { IsByMonths walk.now.rule.now.frequency }
     requires is_first { day_of_month first.now.number ≡ 1 }

@@ -1,4 +1,4 @@
-//! The parts of a rule's text: NAME=VALUE, with `;` between each two.
+//! The parts of a rule's text: NAME=VALUE, separated by `;`.
 ghost use Rattle.std.specs.Prelude.{◌≡◌, ◌↔◌, ◌≤◌, ◌==◌, nat_le, map, count_by, IfOk, IsTrue};
 ghost use Rattle.std.specs.List.{list_any, list_all, find};
 ghost use Rattle.std.specs.Option.{option_copied};
@@ -21,7 +21,7 @@ pub(crate) fn split_parts<'a>(alloc: Global, text: &'a str) -> Result<Vec<&'a st
     text.split(';').collect(alloc)
 }
 
-/// Whether each part has one of the names, and no name stands twice.
+/// Whether each part has one of the names, and no name appears twice.
 pub(crate) fn are_parts(parts: &[&str]) -> bool
     ensures { result ≡ are_parts (map (λ p. p.now) parts.now) }
 {
@@ -60,14 +60,14 @@ fn has_some_name(part: &str) -> bool
         || has_name("BYMONTH", part)
 }
 
-// At most once.
+// Whether the name appears at most once.
 fn stands_once(name: &str, parts: &[&str]) -> bool
     ensures { result ≡ nat_le (count_by (has_name name.now) (map (λ p. p.now) parts.now)) 1 }
 {
     parts.iter().filter(|part| has_name(name, part)).count() <= 1
 }
 
-/// The value of the part of this name, where there is one.
+/// The value of the part with this name, if there is one.
 pub(crate) fn value_of<'a>(name: &str, parts: &[&'a str]) -> Option<&'a str>
     ensures { option_copied result ≡ value_of name.now (map (λ p. p.now) parts.now) }
 {
@@ -92,7 +92,7 @@ fn part_value<'a>(part: &'a str) -> Option<&'a str>
     Some(value)
 }
 
-// Whether what stands before the first '=' is the name, in letters of either case.
+// Whether the text before the first '=' is the name, in either case.
 fn has_name(name: &str, part: &str) -> bool
     ensures { result ≡ has_name name.now part.now }
 {

@@ -16,7 +16,7 @@ use crate::sets::{DaySets, has_number, nth_number};
 
 /// Whether a day is the start of a series with this rule, or later and in the rule's pattern.
 ///
-/// Days are numbered from 1970-01-01, and the caller keeps both in the years 0000 to 9999. It takes no memory.
+/// Days are numbered from 1970-01-01, and both must be in the years 0000 to 9999. It takes no memory.
 pub fn is_day(rule: &Rule, start: i32, day: i32) -> bool
     requires start_in { IsDayNumber start }
     requires day_in { IsDayNumber day }
@@ -119,7 +119,7 @@ pub(crate) fn is_year_day(
     }
 }
 
-/// Whether a day's month is one of those in which a year has days.
+/// Whether a day's month is one in which a yearly rule may select days.
 pub(crate) fn is_in_month(
     days: &YearDays,
     set: u128,
@@ -135,14 +135,14 @@ pub(crate) fn is_in_month(
     }
 }
 
-// Whether a set of places has the day's, from the front or from the end.
+// Whether a set of places has that of the day, from the front or from the end.
 fn has_place(set: u128, day: &CalendarDay) -> bool
     ensures { result ≡ has_place set day.now.number }
 {
     has_number(set, 2 * day.day as u16) || has_number(set, 2 * from_last(day) + 1)
 }
 
-// The day's place in its month, counted from 1 from the end.
+// The day's place in its month, from 1, counted from the end.
 fn from_last(day: &CalendarDay) -> u16
     ensures value { result ≡ from_last day.now.number }
     ensures low { 1 ≤ result }
@@ -151,7 +151,7 @@ fn from_last(day: &CalendarDay) -> u16
     day.days_in_month as u16 + 1 - day.day as u16
 }
 
-// Whether a set of weekdays of a month has the day's, with no place or with one of its places.
+// Whether a set of weekdays of a month has that of the day, without a place or with one of its places.
 fn has_weekday(set: u128, day: &CalendarDay) -> bool
     ensures { result ≡ has_weekday set day.now.number }
 {
@@ -161,7 +161,7 @@ fn has_weekday(set: u128, day: &CalendarDay) -> bool
     has_number(set, weekday) || has_number(set, first) || has_number(set, last)
 }
 
-// In which seven days of its month a place lies.
+// Which seven days of its month a place lies in, from 1.
 fn seven(place: u16) -> u16
     requires low { 1 ≤ place }
     requires high { place ≤ 31 }

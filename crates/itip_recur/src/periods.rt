@@ -1,4 +1,4 @@
-//! Whole periods of a daily or weekly pattern, which need not be walked through.
+//! Whole periods of a daily or weekly pattern, which needn't be walked through.
 ghost use Rattle.std.specs.Prelude.{◌+◌, ◌<◌, ◌≤◌, ◌^◌, pos, ◌+ℤ◌, ◌≤ℤ◌, IfSome};
 ghost use Rattle.itip_recur.specs.Calendar.{IsDayOrEnd};
 ghost use Rattle.itip_recur.specs.Counting.{Counted, Walked, IsPeriod, IsPassed};
@@ -6,14 +6,14 @@ ghost use Rattle.itip_recur.specs.Counting.{Counted, Walked, IsPeriod, IsPassed}
 use crate::rule::{Frequency, Rule};
 use crate::walk::Walk;
 
-/// Days behind the start of a series, and how many of them are in the pattern.
+/// A number of days after the start of a series, and how many of them are in the pattern.
 #[derive(Clone, Copy)]
 pub(crate) struct Passed {
     pub(crate) seen: u32,
     pub(crate) days: u32,
 }
 
-/// As many whole periods behind the start as COUNT leaves room for and lie before `end`.
+/// As many whole periods after the start as COUNT leaves room for and as lie before `end`.
 pub(crate) fn passed_periods(walk: &Walk<'_>, count: u32, end: i32) -> Passed
     requires end_in { IsDayOrEnd end }
     ensures fits { 1 + result.seen < 2 ^ 32 }
@@ -40,7 +40,7 @@ pub(crate) fn passed_periods(walk: &Walk<'_>, count: u32, end: i32) -> Passed
     with_room(seen, period, count - 1, days)
 }
 
-// So many periods as have room in the count and in the days.
+// As many periods as there is room for in the count and in the days.
 fn with_room(seen: u32, period: u32, count: u32, days: u32) -> Passed
     requires seen_in { 0 < seen }
     requires period_in { 0 < period }
@@ -53,7 +53,7 @@ fn with_room(seen: u32, period: u32, count: u32, days: u32) -> Passed
     }
 }
 
-/// The days after which the pattern of a daily or weekly rule comes again.
+/// The number of days after which the pattern of a daily or weekly rule repeats; `None` for other rules.
 fn period(rule: &Rule) -> Option<u32>
     ensures positive { IfSome result (λ period. 0 < period) }
     ensures high { IfSome result (λ period. period ≤ 458_745) }

@@ -18,7 +18,7 @@ use crate::{NoMemory, Weekday};
 use itip_moment::read_moment;
 use std::alloc::Global;
 
-/// What a rule's text is.
+/// What the text of a rule was read as.
 #[derive(Debug, Drop)]
 pub enum Reading {
     /// A rule of the profile.
@@ -27,15 +27,15 @@ pub enum Reading {
     OutsideProfile,
 }
 
-/// The rule that a text is (the value of RRULE, RFC 5545 3.3.10).
+/// Reads a rule (the value of RRULE, RFC 5545 3.3.10), or finds that the text is outside the profile.
 ///
-/// The profile: FREQ of DAILY; WEEKLY with BYDAY; MONTHLY with BYMONTHDAY or BYDAY, where ordinals may
-/// stand; YEARLY with BYMONTH and BYMONTHDAY together; and INTERVAL up to 10,000, COUNT or UNTIL, and
-/// WKST. Letters of either case are read but in UNTIL. An error only when out of memory.
+/// The profile: FREQ is DAILY; WEEKLY, optionally with BYDAY; MONTHLY, optionally with BYMONTHDAY or with BYDAY, which may have
+/// ordinals; or YEARLY, optionally with both BYMONTH and BYMONTHDAY. INTERVAL up to 10,000, COUNT or UNTIL, and WKST are optional.
+/// Letters may be in either case, except in UNTIL. Fails only when out of memory.
 pub fn read_rule(alloc: Global, text: &str) -> Result<Reading, NoMemory>
     ensures { IfOk result (IsReading text.now) }
 {
-    // There are eight names, and none stands twice in a rule: more parts need no place.
+    // A rule has at most one part for each of the eight names, so a text with more parts isn't split.
     if has_many_parts(text) {
         return Ok(Reading::OutsideProfile);
     }

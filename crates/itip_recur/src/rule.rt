@@ -7,14 +7,14 @@ use itip_moment::Moment;
 
 /// A recurrence rule (RFC 5545 3.3.10) of the profile that is expanded here.
 ///
-/// The lists of a rule stand in the order of its text; their order and repeats have no meaning.
+/// The lists of a rule are in the order of its text; their order and repeats have no meaning.
 #[derive(Debug, Drop)]
 pub struct Rule {
     /// FREQ, with the parts that select days.
     pub frequency: Frequency,
-    /// INTERVAL, at least 1: each so-manieth day, week, month or year.
+    /// INTERVAL, at least 1: every `interval`-th day, week, month or year.
     pub interval: u16,
-    /// COUNT or UNTIL.
+    /// COUNT, UNTIL or neither.
     pub end: End,
     /// WKST, the weekday on which weeks begin.
     pub week_start: Weekday,
@@ -46,7 +46,7 @@ pub enum WeekDays {
 /// Which days of a month are selected.
 #[derive(Debug, Drop)]
 pub enum MonthDays {
-    /// The start's day of the month, where the month has it.
+    /// The start's day of the month, if the month has it.
     OfStart,
     /// BYMONTHDAY: the days at these places of the month.
     Listed(ListOf<Place>),
@@ -57,7 +57,7 @@ pub enum MonthDays {
 /// Which days of a year are selected.
 #[derive(Debug, Drop)]
 pub enum YearDays {
-    /// The start's month and day of the month, where the year has it.
+    /// The start's month and day of the month, if the year has it.
     OfStart,
     /// BYMONTH, as numbers from 1 for January, and BYMONTHDAY: the days at these places of these months.
     Listed {
@@ -78,19 +78,19 @@ pub enum Place {
 /// A weekday in a month.
 #[derive(Clone, Copy, Debug, PartialEq, Eq)]
 pub enum MonthWeekday {
-    /// Each such weekday of the month.
+    /// Every such weekday of the month.
     Every(Weekday),
-    /// The one at this place among the month's.
+    /// The one at this place among those of the month.
     Nth(Place, Weekday),
 }
 
 /// Where the moments of a rule end.
 #[derive(Debug, Drop)]
 pub enum End {
-    /// Nowhere but at the end of the calendar.
+    /// Only at the end of the calendar.
     Never,
-    /// COUNT: after so many, the start being the first of them.
+    /// COUNT: after this many, of which the start is the first.
     Count(u32),
-    /// UNTIL: with the last that is not after this moment.
+    /// UNTIL: with the last one that is not after this moment.
     Until(Moment),
 }

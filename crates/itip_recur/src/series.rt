@@ -8,16 +8,16 @@ use crate::{NoMemory, Rule};
 use itip_lines::ListOf;
 use itip_moment::Moment;
 
-/// The moments of a series: those of its rule, more that are added, and some that are taken away.
+/// The moments of a series: those of its rule and those that are added, without those that are taken away.
 #[derive(Debug, Drop)]
 pub struct Series {
     /// DTSTART.
     pub start: Moment,
-    /// RRULE; without one the start is the only moment.
+    /// RRULE; without one, the start is the only member.
     pub rule: Option<Rule>,
     /// RDATE: moments that are added.
     pub rdates: ListOf<Moment>,
-    /// EXDATE: moments that are taken away, also where RDATE adds them. They are in order, so one is found by halves.
+    /// EXDATE: moments that are taken away, even if RDATE adds them. They are sorted, so one is found by binary search.
     pub exdates: ListOf<Moment>,
     pub ghost exdates_ascend: { IsStrictlySortedBy moment_cmp exdates } by { IsStrictlySortedBy-prop moment_cmp exdates },
 }
@@ -27,9 +27,9 @@ impl Series {
     ghost use Rattle.std.specs.List.{Contains};
     ghost use Rattle.itip_moment.specs.declared.moment.Moment.{Moment};
 
-    /// A series of these moments. Those that are taken away are put in order, and may be given in any.
+    /// A series of these moments. `exdates` may be in any order and is sorted here.
     ///
-    /// An error only when out of memory.
+    /// Fails only when out of memory.
     pub fn new(
         start: Moment,
         rule: Option<Rule>,
@@ -60,10 +60,10 @@ impl Series {
 /// How a to-do recurs.
 #[derive(Debug, Drop)]
 pub enum Shape {
-    /// It doesn't.
+    /// It doesn't recur.
     Single,
-    /// In a way that is kept and not expanded.
+    /// It recurs in a way that is kept but not expanded.
     Opaque,
-    /// As this series does.
+    /// It recurs as this series does.
     Repeats(Series),
 }

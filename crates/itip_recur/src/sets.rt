@@ -1,4 +1,4 @@
-//! The lists of a rule as sets of numbers, so that a day is asked once whatever the lists repeat.
+//! The lists of a rule as sets of numbers, so that a day is looked up once, whatever the lists repeat.
 ghost use Rattle.std.specs.Prelude.{◌≡◌, ◌+◌, ◌*◌, ◌<◌, ◌||◌, ◌==◌, ℕ};
 ghost use Rattle.std.specs.List.{list_any};
 ghost use Rattle.jiff.specs.Words.{monday_zero};
@@ -82,14 +82,14 @@ pub(crate) fn has_number(set: u128, number: u16) -> bool
     (set >> number) & 1 == 1
 }
 
-// The set with one number more. No day has a number from 128 on, and none is kept.
+// The set with one more number. No day has a number of 128 or more, so such a number is dropped.
 fn with_number(set: u128, number: u16) -> u128
     ensures { (n : ℕ) → n < 128 → has_number result n ≡ (has_number set n || n == number) }
 {
     if number < 128 { set | 1 << number } else { set }
 }
 
-/// The numbers of a list.
+/// The set of the numbers of a list.
 fn set_of<T: Numbered>(list: &[T]) -> u128
     ensures { IsSet (λ n. list_any (λ one. n == T.own one) list.now) result }
 {
@@ -100,10 +100,10 @@ fn set_of<T: Numbered>(list: &[T]) -> u128
     set
 }
 
-/// The days and the months that the lists of a frequency name.
+/// The days and the months that the lists of a frequency name, as sets.
 #[derive(Clone, Copy)]
 pub(crate) struct DaySets {
-    /// Weekdays, places in a month, or weekdays of a month, as the frequency has them.
+    /// Weekdays, places in a month, or weekdays of a month, depending on the frequency.
     pub(crate) days: u128,
     pub(crate) months: u128,
 }

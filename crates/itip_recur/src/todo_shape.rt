@@ -19,10 +19,9 @@ use std::alloc::Global;
 
 /// How a to-do recurs.
 ///
-/// It is single without RRULE, RDATE and EXDATE. With one of these it is opaque where it has no DTSTART,
-/// more than one RRULE, a rule outside the profile, an UNTIL of another form than DTSTART or beside a
-/// DTSTART in a named zone, or an RDATE with a `/`. Otherwise it repeats. An error only when out of memory, which a single to-do
-/// doesn't ask for.
+/// It is single without RRULE, RDATE and EXDATE. With one of these it is opaque if it has no DTSTART, more than one RRULE, a rule
+/// outside the profile, an UNTIL of another form than DTSTART or beside a DTSTART in a named zone, or an RDATE with a `/`.
+/// Otherwise it repeats. Fails only when out of memory; a single to-do takes none.
 pub fn shape(alloc: Global, todo: &Todo) -> Result<Shape, NoMemory>
     ensures found { IfOk result (IsShape todo.now) }
     ensures room { ¬ Recurs todo.now → IsOk result }
@@ -48,7 +47,7 @@ pub fn recurs(todo: &Todo) -> bool
     )
 }
 
-// Whether there is one of these, or a period among the lines.
+// Whether one of these lists has a value, or a period is among the lines.
 fn are_given(rules: &TextList, rdates: &[Moment], exdates: &[Moment], lines: &LineList) -> bool
     ensures { result ≡ are_given rules.now rdates.now exdates.now lines.now }
 {
@@ -100,7 +99,7 @@ fn copy(moments: &ListOf<Moment>) -> Result<ListOf<Moment>, NoMemory>
     moments.clone()
 }
 
-// The rule of a series, or that it has none; neither where the texts or its end make the series opaque.
+// The rule of a series, or `Some(None)` if it has none; `None` if the texts or the rule's end make the series opaque.
 fn rule_of(
     alloc: Global,
     start: &Moment,
@@ -122,7 +121,7 @@ fn rule_of(
     }
 }
 
-// The rule of a text, where its end fits the start.
+// The rule of a text, if its end fits the start.
 fn read_fitting(alloc: Global, start: &Moment, text: &str) -> Result<Option<Rule>, NoMemory>
     ensures { IfOk result (λ r. MatchOption r
         ((rule : Rule) → RuleText text.now rule → EndFits start.now rule.end → ⊥)

@@ -1,4 +1,4 @@
-//! How many days pass before a frequency selects one.
+//! How many days can be passed over before a frequency selects one.
 ghost use Rattle.std.specs.Prelude.{◌≡◌, ◌<◌, ◌≤◌, ◌+◌, ◌-◌, ℤ, pos, ◌+ℤ◌, ◌≤ℤ◌};
 ghost use Rattle.itip_moment.specs.Years.{IsDayNumber};
 ghost use Rattle.itip_recur.specs.Calendar.{day_of_month, month_length};
@@ -14,7 +14,7 @@ use crate::pattern::{is_in_month, is_month_day, is_week_day, is_year_day};
 use crate::rule::{Frequency, MonthDays, MonthWeekday, Place, YearDays};
 use crate::sets::DaySets;
 
-/// So many days can be passed over: none of them is selected, and where it is 0 this one is.
+/// How many days from this one on can be passed over, none of which is selected; if it is 0, this day is selected.
 pub(crate) fn wait(
     frequency: &Frequency,
     sets: &DaySets,
@@ -58,7 +58,7 @@ fn wait_in_month(days: &MonthDays, set: u128, start: &CalendarDay, day: &Calenda
     }
 }
 
-// From a day that isn't selected on: to the weekday or the place where one alone is named, else to the next day.
+// The wait on a day that isn't selected: for the weekday or the place if only one is named, else for the next day.
 fn wait_behind(days: &MonthDays, day: &CalendarDay) -> i32
     ensures low { pos 1 ≤ℤ result }
     ensures high { result ≤ℤ pos 37 }
@@ -77,7 +77,7 @@ fn wait_behind(days: &MonthDays, day: &CalendarDay) -> i32
     }
 }
 
-// To that day of the month, or to the next month where it comes no more.
+// The wait for the day at this place, or for the next month if that day doesn't come any more in this one.
 fn wait_for_place(place: Place, day: &CalendarDay) -> i32
     ensures low { pos 1 ≤ℤ result }
     ensures high { result ≤ℤ pos 31 }
@@ -91,7 +91,7 @@ fn wait_for_place(place: Place, day: &CalendarDay) -> i32
     }
 }
 
-// The day of the month at a place, where a month has so many days.
+// The day of the month at a place, in a month of `days` days.
 fn day_at_place(place: Place, days: u8) -> u8
     requires { days ≤ 31 }
     ensures { (x : ℤ) → month_length x ≡ days → day_of_month x ≤ days → IsAtPlace place x → day_of_month x ≡ result }
@@ -113,7 +113,7 @@ fn wait_for_month_weekday(one: MonthWeekday, day: &CalendarDay) -> i32
     }
 }
 
-// The seven days of the place are gone to at once, and from there the weekday.
+// Goes to the seven days of the place at once, and from there to the weekday.
 fn wait_for_nth(place: Place, weekday: Weekday, day: &CalendarDay) -> i32
     ensures low { pos 1 ≤ℤ result }
     ensures high { result ≤ℤ pos 37 }
@@ -123,7 +123,7 @@ fn wait_for_nth(place: Place, weekday: Weekday, day: &CalendarDay) -> i32
     before as i32 + wait_for_weekday(weekday, day.number, before)
 }
 
-// So many days behind this one, in its month, are not in the place's seven.
+// A number of days after this one, in its month, none of which is in the place's seven.
 fn before_seven(place: Place, day: &CalendarDay) -> u16
     ensures in_month { day_of_month day.now.number + result ≤ month_length day.now.number }
     ensures bound { result ≤ 30 }
@@ -139,7 +139,7 @@ fn before_seven(place: Place, day: &CalendarDay) -> u16
     }
 }
 
-// The day of the month before the place's seven, and their last one, where a month has so many days.
+// The day of the month before the place's seven, and the last of the seven, in a month of `days` days.
 fn seven_in(place: Place, days: u16) -> (u16, u16)
     ensures { (x : ℤ) → month_length x ≡ days → IsInSeven place x → (result.0 < day_of_month x) × (day_of_month x ≤ result.1) }
 {
@@ -152,7 +152,7 @@ fn seven_in(place: Place, days: u16) -> (u16, u16)
     }
 }
 
-// From so many days behind this one on: to the next such weekday.
+// The wait, from `passed` days after this one, for the next such weekday.
 fn wait_for_weekday(weekday: Weekday, day: i32, passed: u16) -> i32
     requires day_in { IsDayNumber day }
     requires passed_in { passed ≤ 30 }
@@ -163,7 +163,7 @@ fn wait_for_weekday(weekday: Weekday, day: i32, passed: u16) -> i32
     ((weekday.index() as u16 + 41 - weekday_number(day) as u16 - passed) % 7 + 1) as i32
 }
 
-// A month that a rule doesn't name is passed over whole.
+// A month that a rule doesn't name is passed over as a whole.
 fn wait_in_year(days: &YearDays, sets: &DaySets, start: &CalendarDay, day: &CalendarDay) -> i32
     requires { AreSetsOf (Yearly days.now) sets.now }
     ensures low { pos 0 ≤ℤ result }
@@ -180,7 +180,7 @@ fn wait_in_year(days: &YearDays, sets: &DaySets, start: &CalendarDay, day: &Cale
     }
 }
 
-// Until that day of the month, or to the next month where it comes no more.
+// The wait for that day of the month, 0 on the day itself, or for the next month if it doesn't come any more in this one.
 fn wait_for_day(wanted: u8, day: &CalendarDay) -> i32
     ensures low { pos 0 ≤ℤ result }
     ensures high { result ≤ℤ pos 31 }
@@ -193,7 +193,7 @@ fn wait_for_day(wanted: u8, day: &CalendarDay) -> i32
     }
 }
 
-/// To the first of the next month.
+/// The wait for the first of the next month.
 pub(crate) fn rest_of_month(day: &CalendarDay) -> i32
     ensures low { pos 1 ≤ℤ result }
     ensures high { result ≤ℤ pos 31 }

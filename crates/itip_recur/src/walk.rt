@@ -76,8 +76,8 @@ impl<'a> Walk<'a> {
         None
     }
 
-    // The first unit of the rule's own that has a day from this one on, and the first such day; the end of the
-    // calendar where there is none.
+    // The first of the rule's own units that has a day from this one on, and the first such day; the end of the
+    // calendar if there is none.
     fn next_unit(&self, day: i32) -> UnitFrom
         requires { IsDayNumber day }
         ensures { IsUnitFrom self.now.rule.now self.now.start.number day result.number result.day }
@@ -92,8 +92,8 @@ impl<'a> Walk<'a> {
         UnitFrom { number, day }
     }
 
-    // The next unit of the rule's own, with its first day; `next` is the day behind this unit. Its number is known
-    // from this one's, so the date of `next` isn't worked out.
+    // The next of the rule's own units, with its first day; `next` is the day after this unit. The number follows
+    // from this unit's, so the date of `next` isn't computed.
     fn unit_behind(&self, unit: UnitFrom, next: i32) -> UnitFrom
         requires day_in { IsDayNumber unit.day }
         requires next_in { IsDayOrEnd next }
@@ -115,8 +115,8 @@ impl<'a> Walk<'a> {
     }
 }
 
-// Whether all units are the rule's own, so that a day only has to be selected. The start's day in each year is
-// quicker found by the year.
+// Whether all units are the rule's own, so that a day only has to be selected. False for the start's day in each
+// year, which is found faster year by year.
 fn has_each_unit(rule: &Rule) -> bool
     ensures { IsTrue result → rule.now.interval ≡ 1 }
 {
@@ -167,7 +167,7 @@ fn first_from(walk: &Walk<'_>, from: i32, stop: i32) -> Option<i32>
     }
 }
 
-// The day of this year with the start's month and day of the month, where it lies from `from` on and before `stop`.
+// The day of this year with the start's month and day of the month, if it lies from `from` on and before `stop`.
 fn first_anniversary(start: &CalendarDay, year: u32, from: i32, stop: i32) -> Option<i32>
     requires from_in { IsDayNumber from }
     requires stop_in { IsDayOrEnd stop }
@@ -201,7 +201,7 @@ fn first_week_day(days: &WeekDays, set: u128, start: i32, from: i32, stop: i32) 
     }
 }
 
-// The days of a week as seven bits, Monday's the lowest.
+// The days of a week as seven bits, with Monday as the lowest.
 fn week_of(days: &WeekDays, set: u128, start: i32) -> u8
     requires set { IsSet (names_weekday days.now) set }
     requires start_in { IsDayNumber start }
@@ -214,7 +214,7 @@ fn week_of(days: &WeekDays, set: u128, start: i32) -> u8
     }
 }
 
-// So many days from a weekday on, up to the first that the week has; 7 or more where it has none.
+// The number of days from a weekday to the first one that the week has; 7 or more if it has none.
 fn wait_in_week(week: u8, weekday: u8) -> u32
     requires week_in { week < 128 }
     requires weekday_in { weekday < 7 }
@@ -222,7 +222,7 @@ fn wait_in_week(week: u8, weekday: u8) -> u32
     ensures found { result < 7 → IsTrue (has_number week ((weekday + result) % 7)) }
     ensures none { (k : ℕ) → k < 7 → k < result → IsTrue (has_number week ((weekday + k) % 7)) → ⊥ }
 {
-    // The week twice, one after the other.
+    // The week twice in a row.
     let weeks = 129 * week as u16;
     (weeks >> weekday).trailing_zeros()
 }

@@ -12,7 +12,7 @@ use Rattle.itip_state.proofs.Ordered.{IsBefore}
 use Rattle.itip_view.proofs.Collecting.{earlier_before}
 use Rattle.itip_report.specs.Lines.{AscendPlaces, AreReported}
 
--- of the items that were looked at, those that are wanted
+-- of the items that were looked at, those that are looked for
 pub record Chosen (Is : Item → Type 0) (done found : List Item) : Type 0 where
   pub ascend : AscendKeys found
   pub each : (item : Item) → Contains found item → Contains done item × Is item

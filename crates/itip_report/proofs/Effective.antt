@@ -49,7 +49,7 @@ eff_small item =
     let one : drafts_of k eff parts ≡ draft item ∷ [] = sym (append-nil (drafts_of k eff parts)) ∙ alone item in
     (subst (λ (ds : List ItemDraft). AllByRecursion IsSmall ds) one (drafts_small parts item.todo.lawful.seq eff small k)).0
 
--- what was used last is the effective sequence of an item
+-- the sequence that was used last is the effective sequence of an item
 pub last_small : (heard : List Item) (uid : List ℕ) (n : ℕ) → IsLastUsed heard uid (Some n) → n ≤ last_sequence
 last_small heard uid n (used, above) = subst (λ (m : ℕ). m ≤ last_sequence) used.eff_is (eff_small used.item)
 

@@ -1,4 +1,4 @@
--- The reported items of all UIDs, one UID after the other.
+-- The reported items of all UIDs, one UID after another.
 use Rattle.std.proofs.Common.{◌≡◌, ℕ, List, [], ◌∷◌, ◌++◌, sym, ◌∙◌, ap, subst, inl, inr}
 use Rattle.std.specs.List.{Contains}
 use Rattle.std.specs.Option.{option_cmp}

@@ -12,7 +12,7 @@ pub map_twice : {X Y Z : Type 0} (g : Y → Z) (f : X → Y) (xs : List X) → m
 map_twice g f [] = refl
 map_twice g f (x ∷ xs) = ap (λ zs. g (f x) ∷ zs) (map_twice g f xs)
 
--- two facts of what a call gives
+-- two facts about the result of a call
 pub if_ok_both : {A E : Type 0} (r : Result A E) (P Q R : A → Type 0) → ((a : A) → P a → Q a → R a) → IfOk r P → IfOk r Q → IfOk r R
 if_ok_both (Ok a) P Q R f p q = f a p q
 if_ok_both (Err e) P Q R f p q = tt

@@ -1,5 +1,5 @@
--- Where a report tells something, and so may ask for memory.
-use Rattle.std.proofs.Common.{◌≡◌, ◌∙◌, refl, sym, ap, ℕ, zero, suc, ◌<◌, List, [], ◌∷◌, ◌++◌, length, map, get_or, subst, inl, inr, Option, Some, None, arith}
+-- When a report tells something, and so may ask for memory.
+use Rattle.std.proofs.Common.{◌≡◌, ◌∙◌, refl, sym, ap, ℕ, zero, suc, ◌<◌, List, [], ◌∷◌, ◌++◌, length, map, min, get_or, subst, inl, inr, Some, None, arith}
 use Rattle.std.specs.Prelude.{◌≢◌, option_to_list}
 use Rattle.std.specs.List.{Contains, flat_map}
 use Rattle.std.specs.Option.{option_map}
@@ -19,6 +19,15 @@ use Rattle.itip_report.specs.declared.load.Tally.{Tally}
 use Rattle.itip_report.proofs.Mapped.{map_twice}
 use Rattle.itip_report.proofs.Tallying.{tally_lines, tally_records}
 
+-- a list counted as 0 is empty
+pub counts_none : {A : Type 0} (xs : List A) (n : ℕ) → n ≡ min (length xs) 18446744073709551615 → n ≡ 0 → xs ≡ []
+counts_none [] n is none = refl
+counts_none (x ∷ xs) n is none = absurd (omega (arith, is, none))
+
+-- and one counted as more is not
+pub counts_some : {A : Type 0} (xs : List A) (n : ℕ) → n ≡ min (length xs) 18446744073709551615 → (n ≡ 0 → ⊥) → xs ≡ [] → ⊥
+counts_some xs n is some none = let empty : length xs ≡ 0 = ap length none in some (omega (arith, is, empty))
+
 pub some_there : {A : Type 0} (xs : List A) (i : ℕ) → i < length xs → xs ≢ []
 some_there xs i below none = let empty : length xs ≡ 0 = ap length none in absurd (omega (arith, below, empty))
 
@@ -30,7 +39,7 @@ both_none : {A : Type 0} (a b : List A) → a ++ b ≡ [] → (a ≡ []) × (b �
 both_none [] b none = (refl, none)
 both_none (x ∷ a) b none = absurd (cc)
 
--- what some element of a list gives stands in what all give
+-- if some element of a list gives something, so do all together
 pub given_by_one : {X Y : Type 0} (f : X → List Y) (xs : List X) (i : ℕ) (x : X) → i < length xs → x ≡ get_or xs i x → f x ≢ [] →
     flat_map f xs ≢ []
 given_by_one f [] i x below is some none = absurd (omega (arith, below))
@@ -38,7 +47,7 @@ given_by_one f (y ∷ ys) zero x below is some none = some (ap f is ∙ (both_no
 given_by_one f (y ∷ ys) (suc i) x below is some none =
     given_by_one f ys i x (omega (arith, below)) is some (both_none (f y) (flat_map f ys) none).1
 
--- where all give nothing, each does
+-- if all together give nothing, each gives nothing
 pub none_given : {X Y : Type 0} (f : X → List Y) (xs : List X) (i : ℕ) (x : X) → i < length xs → x ≡ get_or xs i x →
     flat_map f xs ≡ [] → f x ≡ []
 none_given f [] i x below is none = absurd (omega (arith, below))
@@ -51,7 +60,7 @@ unfolding firsts
 none_first [] none = refl
 none_first (text ∷ texts) none = absurd (cc)
 
--- where a report of load has nothing to tell, no row shows an attendee
+-- if a report of load has nothing to tell, no row shows an attendee
 pub none_shown : (rows : List Row) → load_lines rows ≡ [] → flat_map keys_in rows ≡ []
 none_shown rows none = none_first (flat_map keys_in rows) (none_mapped (load_line rows) (firsts (flat_map keys_in rows)) none)
 

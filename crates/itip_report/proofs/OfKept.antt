@@ -23,7 +23,7 @@ module _ (x y : List Item) (same : KeepAlike x y) where
       let best : IsBest y (Series uid) found.0 = subst (λ (k : Key). IsBest y k found.0) at found.1 in
       none found.0 ((same found.0).1 (series_kept y uid found.0 best)).best.is_heard best.about
 
-  -- an instance item is not dead where no series item was heard
+  -- an instance item is not dead if no series item was heard
   no_instance_alike : (uid : List ℕ) (id : Option Moment) → NoneAt x (Series uid) → NoneAtInstance x uid id → NoneAtInstance y uid id
   no_instance_alike uid None no_series none = tt
   no_instance_alike uid (Some id) no_series none = λ item h at.

@@ -38,7 +38,7 @@ place_exact a b e =
     let uids = then_equal (slice_cmp nat_cmp (uid_of a) (uid_of b)) _ e in
     let instances = then_equal (option_cmp moment_cmp (instance_of a) (instance_of b)) _ uids.1 in
     let others = then_equal (slice_cmp nat_cmp (attendee_of a) (attendee_of b)) _ instances.1 in
-    key_exact a b (λ i. ordering_then (uids.0 i) (ordering_then (others.1 i) (ordering_then (instances.0 i) (others.0 i))))
+    key_exact a b (λ i. ordering_then (uids.0 i) (ordering_then (others.1 i) (ordering_then (others.0 i) (instances.0 i))))
 
 abbrev same_key : Item → Item → Bool
 same_key a b = is_eq (key_cmp a.key b.key)
@@ -61,7 +61,7 @@ less_from a b not_below apart = by (place_cmp a b) refl
         let turned : place_cmp b a ≡ Less = place_total.antisymm b a ∙ ap ordering_reverse e in
         let x : true ≡ false = sym (ap is_lt turned) ∙ not_below in absurd (cc)
 
--- a fact of pairs of a list is one of the pairs of what is made of it
+-- a fact about the pairs of a list carries over to what it is mapped to
 get_map : {X : Type 0} (item_of : X → Item) (xs : List X) (i : ℕ) (d : Item) (e : X) → i < length xs →
     get_or (map item_of xs) i d ≡ item_of (get_or xs i e)
 get_map item_of [] i d e h = absurd (omega (arith, h))

@@ -1,6 +1,12 @@
 -- What is sent again of the part of a UID is what is sent of all.
-use Rattle.std.proofs.Common.{ℕ, List, Option, Some, None}
+use Rattle.std.proofs.Common.{◌≡◌, ap, ℕ, List, [], Bool, true, false, Option, Some, None}
+use Rattle.std.specs.Prelude.{MatchBool}
+use Rattle.std.specs.List.{Contains}
+use Rattle.itip_items.specs.KeyParts.{uid_of}
 use Rattle.itip_items.specs.declared.item.Item.{Item}
+use Rattle.itip_state.specs.Kept.{ArePart}
+use Rattle.itip_state.proofs.Members.{none_in}
+use Rattle.itip_view.specs.Standing.{IsLiveSeries}
 use Rattle.itip_report.specs.Organizing.{AreResent, AreStanding, IsResendOf}
 use Rattle.itip_report.proofs.SameOf.{SaySame, say_back, standing_there, live_there}
 
@@ -28,3 +34,16 @@ resend_there uid x y same (Some bytes) sent = record {
   standing = standing_all_there uid x y same sent.overrides sent.standing;
   bytes_are = sent.bytes_are;
 }
+
+-- ---- where a test says whether something of the UID is kept
+abbrev pub SaysKept : Bool → List Item → List ℕ → Type 0
+SaysKept keeps heard uid = MatchBool keeps ((item : Item) × Contains heard item × (uid_of item.key ≡ uid)) (ArePart uid [] heard)
+
+pub none_live : (keeps : Bool) (heard : List Item) (uid : List ℕ) → SaysKept keeps heard uid → keeps ≡ false → (item : Item) →
+    ¬ IsLiveSeries heard uid item
+none_live true heard uid says is = absurd (cc)
+none_live false heard uid says is = λ item live. none_in item ((says item).1 (live.best.is_heard, ap uid_of live.best.about))
+
+pub some_kept : (keeps : Bool) (heard : List Item) (uid : List ℕ) → SaysKept keeps heard uid → keeps ≡ true → ArePart uid [] heard → ⊥
+some_kept true heard uid says is none = none_in says.0 ((none says.0).1 (says.1, says.2))
+some_kept false heard uid says is none = absurd (cc)

@@ -1,4 +1,4 @@
--- Rows are counted one attendee after the other.
+-- Rows are counted one attendee after another.
 use Rattle.std.proofs.Common.{◌≡◌, ◌+◌, ◌<◌, ◌≤◌, ◌==◌, ◌||◌, ℕ, suc, List, [], ◌∷◌, ◌++◌, refl, sym, ◌∙◌, ap, subst, map, length}
 use Rattle.std.proofs.Common.{take, drop, get_or, length-append, append-nil, append_assoc, min, Bool, true, false, Option, Some, None, arith}
 use Rattle.std.specs.Prelude.{cond, filter}
@@ -97,7 +97,7 @@ module _ (done : List Row) (before : List (List ℕ)) (k : List ℕ) where
   other key s apart = still key s (any_push (same_text key) before k ∙
       right_false (list_any (same_text key) before) (same_text key k) (same_back key k ∙ apart))
 
-  -- the row at hand has shown him already
+  -- the row at hand has shown the attendee already
   again : list_any (same_text k) before ≡ true → (key : List ℕ) (s : Tallied) → IsCounted done before key s →
       IsCounted done (before ++ k ∷ []) key s
   again shown key s c = by_bool (same_text key k) (IsCounted done (before ++ k ∷ []) key s)
@@ -210,7 +210,7 @@ module _ (done : List Row) (before : List (List ℕ)) (k : List ℕ) where
           so_far : s.rows ≡ rows_with k done + 0
           so_far = (counted_at s found).rows ∙ ap (λ b. rows_with k done + one_if b) (not_shown s found not)
 
-    -- what was counted of an attendee is no more than the rows done
+    -- an attendee is counted at most once for each row done
     few_rows : (s : Tallied) → found_at counts k ≡ Some s → (s.last ≡ length done → ⊥) → s.rows ≤ length done
     few_rows s found not =
         let so_far : s.rows ≡ rows_with k done + 0 = (counted_at s found).rows ∙
@@ -252,7 +252,7 @@ module _ (place : ℕ) (done : List Row) (before keys : List (List ℕ)) (counts
         differ : (b : Bool) → b ≡ true → b ≡ false → ⊥
         differ b p q = let x : true ≡ false = sym p ∙ q in cc
 
-    -- he is new
+    -- the attendee is new
     pub count_first : (keys' : List (List ℕ)) → keys' ≡ keys ++ k ∷ [] → rows ≡ 0 → IsTally done (before ++ k ∷ []) keys' counts'
     count_first keys' more zero = by (found_at counts k) refl so_far
       where
@@ -264,7 +264,7 @@ module _ (place : ℕ) (done : List Row) (before keys : List (List ℕ)) (counts
             let some : 0 < s.rows = (counted_at done before k keys counts tally s found).some in
             absurd (omega (arith, same, some, zero))
 
-    -- he was shown by a row before
+    -- the attendee was shown by an earlier row
     pub count_more : (rows ≡ 0 → ⊥) → IsTally done (before ++ k ∷ []) keys counts'
     count_more not = by (found_at counts k) refl so_far
       where
@@ -310,7 +310,7 @@ no_tally keys counts no_keys none = record {
   only = λ q s e. absurd (none_some s (sym (ap (lookup (same_text q)) none) ∙ e));
 }
 
--- a row is counted behind those that were counted
+-- a row is counted after those that were counted
 pub row_tallied : (done : List Row) (row : Row) (tally next : Tally) → AreTallied done tally →
     ((rows : List Row) → length rows ≡ tally.rows → IsTally rows [] tally.keys.items tally.counts →
     IsTally (rows ++ row ∷ []) [] next.keys.items next.counts) → next.rows ≡ tally.rows + 1 → AreTallied (done ++ row ∷ []) next

@@ -11,8 +11,8 @@ use Rattle.itip_items.specs.KeyParts.{uid_of, rank_of, instance_of, attendee_of}
 use Rattle.itip_items.specs.declared.item.Item.{Item}
 use Rattle.itip_items.specs.declared.key.Key.{Key}
 
--- by UID, then the to-do as a whole before its instances and ranges by moment, then by attendee, then by rank: an instance
--- before a range, and an answer before a refresh request
+-- the order of places: by UID, then the to-do as a whole before its instances and ranges by moment, then by attendee, then by rank: an
+-- instance before a range, and an answer before a refresh request
 abbrev pub place_cmp : Key → Key → Ordering
 place_cmp a b =
     ordering_then (slice_cmp nat_cmp (uid_of a) (uid_of b))
@@ -23,13 +23,13 @@ place_cmp a b =
 abbrev pub AscendPlaces : List Item → Type 0
 AscendPlaces = AllPairs (λ (a b : Item). place_cmp a.key b.key ≡ Less)
 
--- the items are exactly those reported, by place, each once
+-- the items are exactly the reported ones, by place, each once
 pub record AreReported (IsReported : Item → Type 0) (items : List Item) : Type 0 where
   pub ascend : AscendPlaces items
   pub each : (item : Item) → Contains items item → IsReported item
   pub all : (item : Item) → IsReported item → Contains items item
 
--- the lines of exactly the items reported, by place
+-- the lines of exactly the reported items, by place
 pub record AreLinesOf (IsReported : Item → Type 0) (line_of : Item → List ℕ) (lines : List (List ℕ)) : Type 0 where
   pub items : List Item
   pub reported : AreReported IsReported items

@@ -11,7 +11,7 @@ use Rattle.itip_view.specs.declared.row.ShownAttendee.{ShownAttendee}
 abbrev pub same_text : List ℕ → List ℕ → Bool
 same_text a b = is_eq (slice_cmp nat_cmp a b)
 
--- the attendees that a row shows, by their keys
+-- the keys of the attendees that a row shows
 abbrev pub keys_in : Row → List (List ℕ)
 keys_in row = map (λ (a : ShownAttendee). attendee_key a.address) row.attendees
 
@@ -27,6 +27,6 @@ rows_with key rows = length (filter (λ row. list_any (same_text key) (keys_in r
 abbrev pub load_line : List Row → List ℕ → List ℕ
 load_line rows key = key ++ (codes " " ++ decimal (rows_with key rows))
 
--- the attendees that rows show, in the order of first appearance, each with the number of rows that show him
+-- the attendees that rows show, in the order of first appearance, each with the number of rows that show them
 abbrev pub load_lines : List Row → List (List ℕ)
 load_lines rows = map (load_line rows) (firsts (flat_map keys_in rows))

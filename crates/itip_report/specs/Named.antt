@@ -13,7 +13,7 @@ use Rattle.itip_report.specs.declared.report.Report.TheVariants as report
 use Rattle.itip_report.specs.declared.report_name.ReportName.{ReportName}
 use Rattle.itip_report.specs.declared.report_name.ReportName.TheVariants as name
 
--- The lines tell of the rows of the window, of which there are no more than the limit.
+-- The lines tell of the rows of the window, and these are at most as many as the limit.
 pub record TellOfRows (tell : List Row → List (List ℕ)) (heard : List Item) (window : Window) (lines : List (List ℕ)) : Type 0 where
   pub rows : List Row
   pub are_rows : AreRows heard window rows
@@ -36,12 +36,12 @@ IsOfRows name.Cancelled = ⊥
 IsOfRows name.Orphans = ⊥
 IsOfRows name.Refresh = ⊥
 
--- Where a report tells of rows, these are the rows of the window, of which there are no more than the limit.
+-- If a report tells of rows, these are the rows of the window, and at most as many as the limit.
 pub record HasRowsFor (named : ReportName) (heard : List Item) (window : Window) (rows : List Row) : Type 0 where
   pub are_rows : IsOfRows named → AreRows heard window rows
   pub few : IsOfRows named → length rows ≤ row_limit
 
--- Where a report tells of rows, all rows of the window are asked for; else none is.
+-- If a report tells of rows, all rows of the window are asked for; otherwise none are.
 pub record AreRowsFor (named : ReportName) (heard : List Item) (window : Window) (asked : RowsByUid) : Type 0 where
   pub of_rows : IsOfRows named → AreAsked (λ (row : Row). Unit {0}) heard window asked
   pub none : (¬ IsOfRows named) → AreAsked (λ (row : Row). ⊥) heard window asked

@@ -16,7 +16,7 @@ pub record AreResent (heard : List Item) (uid : List ℕ) (series : Item) (overr
   pub live : IsLiveSeries heard uid series
   pub standing : AreStanding heard uid overrides
 
--- the canonical messages of the live series item, and then of the overrides
+-- the canonical messages of the live series item, then of the overrides
 pub record IsResend (heard : List Item) (uid : List ℕ) (bytes : List ℕ) : Type 0 where
   pub series : Item
   pub live : IsLiveSeries heard uid series
@@ -24,7 +24,7 @@ pub record IsResend (heard : List Item) (uid : List ℕ) (bytes : List ℕ) : Ty
   pub standing : AreStanding heard uid overrides
   pub bytes_are : bytes ≡ flat_map (λ (item : Item). item.bytes) (series ∷ overrides)
 
--- what is sent again of a UID: nothing where no series item is live
+-- what is sent again of a UID: nothing if no series item is live
 abbrev pub IsResendOf : List Item → List ℕ → Option (List ℕ) → Type 0
 IsResendOf heard uid None = (item : Item) → ¬ IsLiveSeries heard uid item
 IsResendOf heard uid (Some bytes) = IsResend heard uid bytes
@@ -33,8 +33,8 @@ IsResendOf heard uid (Some bytes) = IsResend heard uid bytes
 abbrev pub last_sequence : ℕ
 last_sequence = 2_147_483_647
 
--- One more than the greatest effective sequence of the kept items of the organizer of a UID, or 0 where there is none; none
--- is left after the greatest there is.
+-- One more than the greatest effective sequence of the organizer's kept items of a UID, or 0 if there are none; no sequence is left
+-- after the greatest that there is.
 abbrev pub IsNext : List Item → List ℕ → Option ℕ → Type 0
 IsNext heard uid None = IsLastUsed heard uid (Some last_sequence)
 IsNext heard uid (Some zero) = IsLastUsed heard uid None

@@ -6,7 +6,7 @@ use Rattle.std.specs.Option.{option_map}
 use Rattle.itip_view.specs.ListText.{id_text}
 use Rattle.itip_view.specs.declared.row.Row.{Row}
 
--- UID, identifier and progress of a row that has one
+-- UID, identifier and progress of a row that has a progress
 abbrev pub line_with : Row → ℕ → List ℕ
 line_with row n = row.uid ++ (codes " " ++ (id_text row.id ++ (codes " " ++ decimal n)))
 

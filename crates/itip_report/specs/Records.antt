@@ -12,7 +12,7 @@ use Rattle.itip_report.specs.declared.records.AttendeeLoad.{AttendeeLoad}
 abbrev pub load_of : List Row → List ℕ → AttendeeLoad
 load_of rows key = record { attendee = key; rows = rows_with key rows }
 
--- the attendees that rows show, in the order of first appearance, each with the number of rows that show him
+-- the attendees that rows show, in the order of first appearance, each with the number of rows that show them
 abbrev pub load_records : List Row → List AttendeeLoad
 load_records rows = map (load_of rows) (firsts (flat_map keys_in rows))
 
@@ -20,7 +20,7 @@ load_records rows = map (load_of rows) (firsts (flat_map keys_in rows))
 abbrev pub load_text : AttendeeLoad → List ℕ
 load_text load = load.attendee ++ (codes " " ++ decimal load.rows)
 
--- a row that has a progress, and how far it is
+-- a row that has a progress, and the progress
 pub record RowAt : Type 0 where
   pub row : Row
   pub percent : ℕ

@@ -1,4 +1,4 @@
--- What the reports of a desk are called (our own format).
+-- The names of the reports of a desk (our own format).
 use Rattle.std.specs.Prelude.{ℕ, List, codes}
 use Rattle.itip_report.specs.declared.report_name.ReportName.{ReportName}
 use Rattle.itip_report.specs.declared.report_name.ReportName.TheVariants as name

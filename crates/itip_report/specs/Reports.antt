@@ -21,7 +21,7 @@ pub record IsCancelledSeries (heard : List Item) (item : Item) : Type 0 where
   pub best : IsBest heard (Series (uid_of item.key)) item
   pub cancelled : IsCancelled item
 
--- an instance item that stands at its instance, or a range item that stands from one on
+-- an instance item that stands at its instance, or a range item that stands from its instance on
 pub record IsStanding (heard : List Item) (uid : List ℕ) (item : Item) : Type 0 where
   pub id : Moment
   pub stands : Stands heard uid id item ⊎ StandsFrom heard uid id item
@@ -38,7 +38,7 @@ IsCancellation heard item = IsCancelledSeries heard item ⊎ IsCancelledOverride
 abbrev pub NoneAt : List Item → Key → Type 0
 NoneAt heard key = (item : Item) → Contains heard item → item.key ≡ key → ⊥
 
--- no instance item was heard at the instance that a key names, where it names one
+-- no instance item was heard at the instance that a key names, if it names one
 abbrev pub NoneAtInstance : List Item → List ℕ → Option Moment → Type 0
 NoneAtInstance heard uid None = Unit {0}
 NoneAtInstance heard uid (Some id) = NoneAt heard (Instance uid id)
@@ -51,7 +51,7 @@ IsOfAttendee (Range uid id) = ⊥
 IsOfAttendee (Answer uid id attendee) = Unit {0}
 IsOfAttendee (Refresh uid id attendee) = Unit {0}
 
--- a kept answer or refresh request whose UID has no series item and, where it names an instance, no instance item there
+-- a kept answer or refresh request whose UID has no series item and, if it names an instance, no instance item there
 pub record IsOrphan (heard : List Item) (item : Item) : Type 0 where
   pub kept : IsKept heard item
   pub of_attendee : IsOfAttendee item.key
@@ -73,11 +73,11 @@ pub record IsWanted (heard : List Item) (item : Item) : Type 0 where
   pub governs : Governs heard (uid_of item.key) (instance_of item.key) governing
   pub older : stamp_cmp governing.stamp item.stamp ≡ Less
 
--- UID, and "-" or the instance
+-- the UID, and "-" or the instance
 abbrev pub named : Item → List ℕ
 named item = uid_of item.key ++ (codes " " ++ shown shown_moment (instance_of item.key))
 
--- what an item of an attendee is called
+-- the word for an item of an attendee
 abbrev pub word_of : Key → List ℕ
 word_of (Series uid) = codes ""
 word_of (Instance uid id) = codes ""
@@ -85,7 +85,7 @@ word_of (Range uid id) = codes ""
 word_of (Answer uid id attendee) = codes " answer "
 word_of (Refresh uid id attendee) = codes " refresh "
 
--- what stands behind the moment of a range
+-- what follows the moment of an item: a mark for a range
 abbrev pub mark_of : Key → List ℕ
 mark_of (Series uid) = codes ""
 mark_of (Instance uid id) = codes ""

@@ -9,12 +9,12 @@ use Rattle.itip_report.specs.declared.report.Report.TheVariants as report
 use Rattle.itip_report.specs.declared.sought.Sought.{Sought}
 use Rattle.itip_report.specs.declared.sought.Sought.TheVariants as sought
 
--- an item of what is kept of a UID
+-- one of the kept items of a UID
 pub record IsAmong (part : UidPart) (item : Item) : Type 0 where
   pub part_is : IsUidPart part
   pub there : Contains part.items item
 
--- the ranges that it is measured by are of these items
+-- the ranges that it has, if any, are those of these items
 abbrev pub IsOver : UidPart → Sought → Type 0
 IsOver part sought.Standing = Unit {0}
 IsOver part sought.Cancelled = Unit {0}

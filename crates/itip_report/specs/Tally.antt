@@ -1,4 +1,4 @@
--- The rows that show each attendee, counted one after the other (our own form).
+-- The rows that show each attendee, counted one after another (our own form).
 use Rattle.std.specs.Prelude.{◌≡◌, ◌+◌, ◌<◌, ◌==◌, ℕ, List, [], ◌++◌, Bool, true, false, Option, Some, None, length, if◌then◌else◌}
 use Rattle.std.specs.List.{flat_map, list_any}
 use Rattle.std.specs.BTreeMap.{BTreeMap, get}
@@ -13,8 +13,8 @@ abbrev pub one_if : Bool → ℕ
 one_if true = 1
 one_if false = 0
 
--- what was counted of an attendee: the rows done that show him, and the row at hand where it has shown him so far; the place
--- of the last of them
+-- what was counted of an attendee: the rows done that show them, and the row at hand if it has shown them so far; the place of the
+-- last of these
 pub record IsCounted (done : List Row) (before : List (List ℕ)) (key : List ℕ) (seen : Tallied) : Type 0 where
   pub rows : seen.rows ≡ rows_with key done + one_if (list_any (same_text key) before)
   pub some : 0 < seen.rows
@@ -33,7 +33,7 @@ pub record AreTallied (done : List Row) (tally : Tally) : Type 0 where
   pub rows_are : tally.rows ≡ length done
   pub counted : IsTally done [] tally.keys.items tally.counts
 
--- the rows counted so far, or that the row at this place was counted already
+-- the number of rows counted so far, or none if the row at this place was counted already
 abbrev pub rows_before : ℕ → Option Tallied → Option ℕ
 rows_before place None = Some 0
 rows_before place (Some seen) = if seen.last == place then None else Some seen.rows

@@ -1,4 +1,4 @@
-//! No rows.
+//! No rows of a state.
 ghost use Rattle.std.specs.Prelude.{IfOk};
 ghost use Rattle.itip_view.specs.ByUid.{AreAsked};
 
@@ -7,7 +7,7 @@ use itip_state::State;
 use itip_view::{RowsByUid, Wanted, Window};
 use std::alloc::Global;
 
-/// No row of a state: what a report looks at that tells of no rows.
+/// No rows of a state: what a report that tells of none looks at. Fails if an allocation fails.
 pub fn no_rows(alloc: Global, state: &State, window: Window) -> Result<RowsByUid<'_, '_>, NoMemory>
     ensures { IfOk result (AreAsked (λ row. ⊥) state.now window) }
 {

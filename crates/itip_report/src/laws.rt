@@ -1,4 +1,4 @@
-//! The laws of reports, of every finite set of items. They hold with no code: each function is empty.
+//! The laws of reports, for every finite set of items. They need no code: each function is empty.
 ghost use Rattle.std.specs.Prelude.{◌≡◌, ◌∷◌, [], ℕ, List, Option};
 ghost use Rattle.itip_message.specs.Message.{ReadsMessage};
 ghost use Rattle.itip_items.specs.declared.item.Item.{Item};
@@ -19,7 +19,7 @@ pub fn reports_of_kept()
     ensures next { (uid : List ℕ) (next : Option ℕ) → FollowsFromKept (λ heard. IsNext heard uid next) }
 {}
 
-/// Each report has one answer (our own rules).
+/// Each report has at most one answer (our own rules).
 pub fn one_report()
     ensures lines { (heard : List Item) (report : Report) (lines others : List (List ℕ)) → AreReportLines report heard lines
         → AreReportLines report heard others → lines ≡ others }
@@ -31,7 +31,7 @@ pub fn one_report()
         → IsNext heard uid other → next ≡ other }
 {}
 
-/// What is sent again of a to-do of which no instance and no range stands is a message that gives its one item.
+/// If no instance and no range of a to-do stands, what is sent again of it is a message that is read as one item, that of the series.
 pub fn resend_is_read()
     ensures { (heard : List Item) (uid bytes : List ℕ) (sent : IsResend heard uid bytes)
         → sent.overrides ≡ [] → ReadsMessage bytes (sent.series ∷ []) }

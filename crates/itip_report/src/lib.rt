@@ -1,5 +1,5 @@
-//! What an office asks of a desk beside its list: who carries how much, how far it is, what is cancelled, which answers belong
-//! to nothing, who waits for a newer revision, what to send again, and the next sequence to use.
+//! What an office asks of a desk besides its list: how many rows show each attendee, how far rows are, what is cancelled, which
+//! answers belong to nothing, who waits for a newer revision, what to send again, and the next sequence to use.
 #![tactic(auto)]
 
 mod empty;

@@ -36,7 +36,7 @@ pub(crate) fn line_of(alloc: Global, report: Report, item: &Item) -> Result<Stri
     }
 }
 
-/// What the item is called, and its attendee.
+/// Appends a word and the attendee of a key.
 fn put_attendee(line: &mut String, word: &str, key: &Key) -> Result<(), NoMemory>
     ensures { OnOk result (string_bytes line.new ≡ string_bytes line.old ++ (word.now ++ attendee_of key.now)) }
 {
@@ -44,7 +44,7 @@ fn put_attendee(line: &mut String, word: &str, key: &Key) -> Result<(), NoMemory
     line.push_str(key.attendee())
 }
 
-/// The UID, and what is named of it.
+/// Appends the UID, and the instance or `-`.
 fn put_name(alloc: Global, line: &mut String, item: &Item) -> Result<(), NoMemory>
     ensures { OnOk result (string_bytes line.new ≡ string_bytes line.old ++ named item.now) }
 {
@@ -53,7 +53,7 @@ fn put_name(alloc: Global, line: &mut String, item: &Item) -> Result<(), NoMemor
     put_instance(alloc, line, item.key.instance())
 }
 
-/// Appends the moment of an instance, or `-` for the to-do as a whole. After a refusal (out of memory) a part of it stands there.
+/// Appends the moment of an instance, or `-` for the to-do as a whole. If an allocation fails, part of it may have been appended.
 pub fn put_instance(alloc: Global, line: &mut String, id: Option<&Moment>) -> Result<(), NoMemory>
     ensures { OnOk result (string_bytes line.new ≡ string_bytes line.old ++ shown shown_moment (option_copied id.entry)) }
 {
@@ -63,8 +63,8 @@ pub fn put_instance(alloc: Global, line: &mut String, id: Option<&Moment>) -> Re
     }
 }
 
-/// Appends a moment, with `TZID=`, its zone and a colon before it where it is in a zone. After a refusal (out of memory) a part of it
-/// stands there.
+/// Appends a moment, preceded by `TZID=`, its zone and a colon if it is in a zone. If an allocation fails, part of it may have been
+/// appended.
 pub fn put_moment(alloc: Global, line: &mut String, moment: &Moment) -> Result<(), NoMemory>
     ensures { OnOk result (string_bytes line.new ≡ string_bytes line.old ++ shown_moment moment.now) }
 {
@@ -77,7 +77,7 @@ pub fn put_moment(alloc: Global, line: &mut String, moment: &Moment) -> Result<(
     line.push_str(text.as_str())
 }
 
-/// The value text of a moment. It is ASCII, so that nothing is lost of it.
+/// The value text of a moment. It is ASCII, so nothing of it is lost.
 fn text_of(alloc: Global, moment: &Moment) -> Result<String, NoMemory>
     ensures { IfOk result (λ text. string_bytes text ≡ moment_text moment.now) }
 {
@@ -86,7 +86,7 @@ fn text_of(alloc: Global, moment: &Moment) -> Result<String, NoMemory>
     String::from_utf8_lossy(alloc, &octets)
 }
 
-/// What an item of an attendee is called.
+/// The word for an item of an attendee; empty for other items.
 fn word(key: &Key) -> &'static str
     ensures { result.now ≡ word_of key.now }
 {
@@ -97,7 +97,7 @@ fn word(key: &Key) -> &'static str
     }
 }
 
-/// What stands after the moment of an item: `+` for a range.
+/// What follows the moment of an item: `+` for a range, else nothing.
 pub fn mark(key: &Key) -> &'static str
     ensures { result.now ≡ mark_of key.now }
 {

@@ -1,4 +1,4 @@
-//! The reports over kept items, line by line. Where nothing is kept they take no memory, and the answer is Ok.
+//! The reports over kept items, line by line. If nothing is kept, they allocate nothing and never fail.
 ghost use Rattle.std.specs.Prelude.{◌≡◌, [], IfOk, IsOk, map};
 ghost use Rattle.std.specs.String.{string_bytes};
 ghost use Rattle.itip_report.specs.Reports.{AreReportLines};
@@ -11,7 +11,7 @@ use itip_state::State;
 use std::alloc::Global;
 
 /// What is cancelled: `uid -` for each cancelled to-do, `uid id` for each cancelled instance that stands, `uid id+` for each
-/// cancelled range that stands.
+/// cancelled range that stands. Fails if an allocation fails.
 pub fn cancelled(alloc: Global, state: &State) -> Result<Vec<String>, NoMemory>
     ensures lines { IfOk result (λ lines. AreReportLines Report.Cancelled state.now (map string_bytes lines.items)) }
     ensures succeeds { state.now ≡ [] → IsOk result }
@@ -19,7 +19,8 @@ pub fn cancelled(alloc: Global, state: &State) -> Result<Vec<String>, NoMemory>
     lines_of(alloc, state, Report::Cancelled)
 }
 
-/// Answers and refresh requests of which neither the to-do nor the instance is known: `uid id answer address` and `uid id refresh address`.
+/// Answers and refresh requests for which neither the to-do nor the instance is known: `uid id answer address` and `uid id refresh
+/// address`. Fails if an allocation fails.
 pub fn orphans(alloc: Global, state: &State) -> Result<Vec<String>, NoMemory>
     ensures lines { IfOk result (λ lines. AreReportLines Report.Orphans state.now (map string_bytes lines.items)) }
     ensures succeeds { state.now ≡ [] → IsOk result }
@@ -27,7 +28,7 @@ pub fn orphans(alloc: Global, state: &State) -> Result<Vec<String>, NoMemory>
     lines_of(alloc, state, Report::Orphans)
 }
 
-/// Refresh requests that are newer than the item that governs what they name: `uid id address`.
+/// Refresh requests that are newer than the item that governs what they name: `uid id address`. Fails if an allocation fails.
 pub fn refresh_wanted(alloc: Global, state: &State) -> Result<Vec<String>, NoMemory>
     ensures lines { IfOk result (λ lines. AreReportLines Report.Refresh state.now (map string_bytes lines.items)) }
     ensures succeeds { state.now ≡ [] → IsOk result }

@@ -19,25 +19,25 @@ use itip_view::Row;
 use std::alloc::Global;
 use std::collections::BTreeMap;
 
-/// How many rows have shown an attendee, and the place of the last of them.
+/// How many rows have shown an attendee, and the place of the last of them, from 0.
 #[derive(Clone, Copy, Debug)]
 struct Tallied {
     rows: usize,
     last: usize,
 }
 
-/// The attendees that rows show, each counted. Rows are counted one after the other, and none of them is held.
+/// The attendees that rows show, each with a count. Rows are counted one after another, and none is held.
 #[derive(Debug, Drop)]
 pub(crate) struct Tally {
     /// In the order of first appearance.
     keys: Vec<Text>,
     counts: BTreeMap<Text, Tallied>,
-    /// How many rows were counted.
+    /// How many rows have been counted.
     rows: usize,
 }
 
 impl Tally {
-    /// Of no rows.
+    /// The tally of no rows.
     pub(crate) fn new(alloc: Global) -> Tally
         ensures { AreTallied [] result }
     {
@@ -49,8 +49,8 @@ impl Tally {
     }
 }
 
-/// `address count` for each attendee whom rows show: the address with ASCII letters in lower case, and the number of rows that
-/// show him, in the order of first appearance. Where no row shows an attendee it takes no memory, and the answer is Ok.
+/// `address count` for each attendee that rows show, in the order of first appearance: the address with ASCII letters in lower case,
+/// and the number of rows that show it. Fails if an allocation fails. Allocates nothing if no row shows an attendee.
 pub fn load_by_attendee(alloc: Global, rows: &[Row]) -> Result<Vec<String>, NoMemory>
     ensures lines { IfOk result (λ lines. map string_bytes lines.items ≡ load_lines rows.now) }
     ensures succeeds { load_lines rows.now ≡ [] → IsOk result }
@@ -60,8 +60,8 @@ pub fn load_by_attendee(alloc: Global, rows: &[Row]) -> Result<Vec<String>, NoMe
     tallied_lines(alloc, &tally)
 }
 
-/// The attendees whom rows show, each with the number of rows that show him, in the order of first appearance: the lines of
-/// [`load_by_attendee`] as records. Where no row shows an attendee it takes no memory, and the answer is Ok.
+/// The attendees that rows show, in the order of first appearance, each with the number of rows that show them: the lines of
+/// [`load_by_attendee`] as records. Fails if an allocation fails. Allocates nothing if no row shows an attendee.
 pub fn load_records(alloc: Global, rows: &[Row]) -> Result<Vec<AttendeeLoad>, NoMemory>
     ensures records { IfOk result (λ loads. loads.items ≡ load_records rows.now) }
     ensures succeeds { load_records rows.now ≡ [] → IsOk result }
@@ -71,7 +71,7 @@ pub fn load_records(alloc: Global, rows: &[Row]) -> Result<Vec<AttendeeLoad>, No
     tallied_records(alloc, &tally)
 }
 
-/// The records of [`load_records`] for the rows that were counted.
+/// The records of [`load_records`] for the rows that have been counted.
 fn tallied_records(alloc: Global, tally: &Tally) -> Result<Vec<AttendeeLoad>, NoMemory>
     ensures records { IfOk result (λ loads. (done : List Row) → AreTallied done tally.now → loads.items ≡ load_records done) }
     ensures succeeds { tally.now.keys.items ≡ [] → IsOk result }
@@ -86,7 +86,7 @@ fn tallied_records(alloc: Global, tally: &Tally) -> Result<Vec<AttendeeLoad>, No
     Ok(loads)
 }
 
-/// The lines of [`load_by_attendee`] for the rows that were counted.
+/// The lines of [`load_by_attendee`] for the rows that have been counted.
 pub(crate) fn tallied_lines(alloc: Global, tally: &Tally) -> Result<Vec<String>, NoMemory>
     ensures lines { IfOk result (λ lines. (done : List Row) → AreTallied done tally.now → map string_bytes lines.items ≡ load_lines done) }
     ensures succeeds { tally.now.keys.items ≡ [] → IsOk result }
@@ -98,7 +98,7 @@ pub(crate) fn tallied_lines(alloc: Global, tally: &Tally) -> Result<Vec<String>,
     Ok(lines)
 }
 
-/// The rows counted for an attendee.
+/// The number of rows counted for an attendee.
 fn rows_of(counts: &BTreeMap<Text, Tallied>, key: &Text) -> usize
     ensures { result ≡ rows_of (get (slice_cmp nat_cmp) counts.now key.now) }
 {
@@ -119,7 +119,7 @@ fn load_line(alloc: Global, key: &Text, rows: usize) -> Result<String, NoMemory>
     Ok(line)
 }
 
-/// Counts rows, behind those that were counted.
+/// Counts rows, after those that have been counted, up to `usize::MAX` rows in all.
 pub(crate) fn count_rows(alloc: Global, tally: &mut Tally, rows: &[Row]) -> Result<(), NoMemory>
     ensures counted { OnOk result ((done : List Row) → length done + length rows.now ≤ usize.MAX
         → AreTallied done tally.old → AreTallied (done ++ rows.now) tally.new) }
@@ -131,7 +131,7 @@ pub(crate) fn count_rows(alloc: Global, tally: &mut Tally, rows: &[Row]) -> Resu
     Ok(())
 }
 
-/// Counts a row, behind those that were counted, where a place is left for it.
+/// Counts a row, after those that have been counted. Does nothing if `usize::MAX` rows have been.
 fn count_row(alloc: Global, tally: &mut Tally, row: &Row) -> Result<(), NoMemory>
     ensures counted { OnOk result ((done : List Row) → length done < usize.MAX
         → AreTallied done tally.old → AreTallied (done ++ row.now ∷ []) tally.new) }
@@ -146,7 +146,7 @@ fn count_row(alloc: Global, tally: &mut Tally, row: &Row) -> Result<(), NoMemory
     Ok(())
 }
 
-/// Counts the row at a place, once for each attendee that it shows.
+/// Counts the row at `place`, once for each attendee that it shows.
 fn count_attendees(
     alloc: Global,
     tally: &mut Tally,
@@ -165,7 +165,7 @@ fn count_attendees(
     Ok(())
 }
 
-/// Counts the row at a place for one attendee, unless it was counted for him.
+/// Counts the row at `place` for one attendee, unless it has been counted for them.
 fn count(tally: &mut Tally, key: Text, place: usize) -> Result<(), NoMemory>
     requires { place < usize.MAX }
     ensures { OnOk result ((done : List Row) (before : List (List ℕ)) → length done ≡ place
@@ -186,7 +186,7 @@ fn count(tally: &mut Tally, key: Text, place: usize) -> Result<(), NoMemory>
     Ok(())
 }
 
-/// The rows counted so far for an attendee, or `None` where the row at the place was counted already.
+/// The number of rows counted so far for an attendee, or `None` if the row at `place` has been counted already.
 fn rows_before(counts: &BTreeMap<Text, Tallied>, key: &Text, place: usize) -> Option<usize>
     ensures { result ≡ rows_before place (get (slice_cmp nat_cmp) counts.now key.now) }
 {

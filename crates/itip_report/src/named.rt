@@ -1,5 +1,5 @@
 //! The lines of a report, by its name.
-ghost use Rattle.std.specs.Prelude.{List, IfOk, map};
+ghost use Rattle.std.specs.Prelude.{◌≡◌, [], List, IfOk, IsOk, map};
 ghost use Rattle.std.specs.String.{string_bytes};
 ghost use Rattle.itip_view.specs.ByUid.{AreLeft};
 ghost use Rattle.itip_view.specs.declared.row.Row.{Row};
@@ -14,9 +14,27 @@ use itip_state::State;
 use itip_view::RowsByUid;
 use std::alloc::Global;
 
-/// The lines of a report over the kept items of a state. Where it tells of rows, `rows` are those of the state in a window, at most
-/// 100,000, and the report is that of the window: they are made a UID at a time. Other reports don't look at them.
+/// The lines of a report over the kept items of a state. If it is a report of rows, `rows` have to be those of the state in a window,
+/// at most 100,000, and the report is that of the window; they are made a UID at a time. Other reports don't look at them. Fails if an
+/// allocation fails. Allocates nothing if nothing is kept.
 pub fn report_lines(
+    alloc: Global,
+    state: &State,
+    name: ReportName,
+    rows: RowsByUid<'_, '_>,
+) -> Result<Vec<String>, NoMemory>
+    ensures lines { IfOk result (λ lines. (window : Window) (all : List Row) → AreLeft rows.entry all → HasRowsFor name state.now window all
+        → IsReportOf name state.now window (map string_bytes lines.items)) }
+    ensures succeeds { state.now ≡ [] → IsOk result }
+{
+    if state.entries() == 0 {
+        return Ok(Vec::new(alloc));
+    }
+    lines_by_name(alloc, state, name, rows)
+}
+
+/// The same, if something is kept.
+fn lines_by_name(
     alloc: Global,
     state: &State,
     name: ReportName,

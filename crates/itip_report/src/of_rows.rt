@@ -1,4 +1,4 @@
-//! Reports of rows, made a UID at a time: the rows of one UID are held, and what is told.
+//! Reports of rows that are made a UID at a time: only the rows of one UID and the report are held.
 ghost use Rattle.std.specs.Prelude.{◌≡◌, ◌≤◌, List, IfOk, length, map};
 ghost use Rattle.std.specs.String.{string_bytes};
 ghost use Rattle.itip_view.specs.ByUid.{AreLeft};
@@ -13,7 +13,7 @@ use crate::row_progress::progress;
 use itip_view::RowsByUid;
 use std::alloc::Global;
 
-/// The lines of [`load_by_attendee`](crate::load_by_attendee) over the rows that are left, where they are at most 100,000.
+/// The lines of [`load_by_attendee`](crate::load_by_attendee) over the rows that are left, if these are at most 100,000.
 pub(crate) fn load_of(alloc: Global, rows: RowsByUid<'_, '_>) -> Result<Vec<String>, NoMemory>
     ensures { IfOk result (λ lines. (all : List Row) → AreLeft rows.entry all → length all ≤ row_limit
         → map string_bytes lines.items ≡ load_lines all) }

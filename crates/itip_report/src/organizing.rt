@@ -1,8 +1,9 @@
 //! What an organizer sends again, and the next sequence to use.
-ghost use Rattle.std.specs.Prelude.{◌≡◌, ◌++◌, IfOk, OnOk, MatchOption, map};
+ghost use Rattle.std.specs.Prelude.{◌≡◌, ◌++◌, [], IfOk, IsOk, OnOk, MatchOption, map};
 ghost use Rattle.std.specs.List.{flat_map};
 ghost use Rattle.std.specs.Option.{option_map};
 ghost use Rattle.itip_items.specs.declared.item.Item.{Item};
+ghost use Rattle.itip_state.specs.Kept.{ArePart};
 ghost use Rattle.itip_view.specs.Standing.{IsLiveSeries};
 ghost use Rattle.itip_report.specs.Organizing.{AreResent, IsResendOf, IsNext};
 
@@ -23,7 +24,8 @@ pub struct Resent<'a> {
     pub overrides: Vec<&'a Item>,
 }
 
-/// The items whose messages are to be sent again of what is kept of a UID; `None` where no series item of the UID is live.
+/// The items of a UID whose messages are to be sent again, from those that are kept of it; `None` if no series item of the UID is live.
+/// Fails if an allocation fails.
 pub fn resent_items<'a>(
     alloc: Global,
     items: &ItemsOfUid<'a>,
@@ -38,16 +40,21 @@ pub fn resent_items<'a>(
     Ok(Some(Resent { series, overrides }))
 }
 
-/// The messages to send again of a UID: the canonical octets of its live series item, then those of the instance and range
-/// items that stand, by moment, an instance before a range of its moment; `None` where no series item of the UID is live.
+/// The messages of a UID to send again: the canonical bytes of its live series item, then those of the instance and range items that
+/// stand, by moment, an instance before a range of its moment; `None` if no series item of the UID is live. Fails if an allocation
+/// fails. Allocates nothing if nothing of the UID is kept.
 pub fn resend(alloc: Global, state: &State, uid: &Uid) -> Result<Option<Vec<u8>>, NoMemory>
-    ensures { IfOk result (λ messages. IsResendOf state.now uid.now (option_map (λ bytes. bytes.items) messages)) }
+    ensures messages { IfOk result (λ messages. IsResendOf state.now uid.now (option_map (λ bytes. bytes.items) messages)) }
+    ensures succeeds { ArePart uid.now [] state.now → IsOk result }
 {
+    if !state.keeps(uid) {
+        return Ok(None);
+    }
     let items = state.of_uid(uid)?;
     resend_of(alloc, &items)
 }
 
-/// The messages to send again of what is kept of a UID.
+/// The messages of a UID to send again, from the items that are kept of it.
 fn resend_of(alloc: Global, items: &ItemsOfUid<'_>) -> Result<Option<Vec<u8>>, NoMemory>
     ensures { IfOk result (λ messages. IsResendOf items.now.items items.now.uid (option_map (λ bytes. bytes.items) messages)) }
 {
@@ -60,7 +67,7 @@ fn resend_of(alloc: Global, items: &ItemsOfUid<'_>) -> Result<Option<Vec<u8>>, N
     Ok(Some(messages))
 }
 
-/// Appends the canonical octets of items.
+/// Appends the canonical bytes of items.
 fn put_messages(out: &mut Vec<u8>, items: &[&Item]) -> Result<(), NoMemory>
     ensures { OnOk result (out.new.items ≡ out.old.items ++ flat_map (λ item. item.now.bytes) items.now) }
 {
@@ -71,7 +78,7 @@ fn put_messages(out: &mut Vec<u8>, items: &[&Item]) -> Result<(), NoMemory>
 }
 
 /// The next SEQUENCE to use for a UID (RFC 5545 3.8.7.4): one more than the greatest effective sequence of its kept items of
-/// REQUEST, ADD and CANCEL, or 0 where there is none; `None` where 2147483647 was used. It takes no memory.
+/// REQUEST, ADD and CANCEL, or 0 if there are none; `None` if 2147483647 was used. Allocates nothing.
 pub fn next_seq(state: &State, uid: &Uid) -> Option<u32>
     ensures { IsNext state.now uid.now result }
 {

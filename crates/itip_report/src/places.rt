@@ -7,7 +7,7 @@ use crate::NoMemory;
 use itip_items::{Item, Key};
 use std::cmp::Ordering;
 
-/// By UID, then the to-do as a whole before its instances and ranges by moment, then by attendee, then by rank: an instance
+/// Compares by UID, then the to-do as a whole before its instances and ranges by moment, then by attendee, then by rank: an instance
 /// before a range, and an answer before a refresh request.
 pub fn compare_places(key: &Key, other: &Key) -> Ordering
     ensures { result ≡ place_cmp key.now other.now }
@@ -19,7 +19,7 @@ pub fn compare_places(key: &Key, other: &Key) -> Ordering
         .then(key.rank().cmp(&other.rank()))
 }
 
-/// Items that stand in the order of their keys, by place.
+/// Sorts items by place; they have to be in the order of their keys. Fails if an allocation fails.
 pub fn by_place<'a>(items: Vec<&'a Item>) -> Result<Vec<&'a Item>, NoMemory>
     requires { AscendKeys (map (λ item. item.now) items.items) }
     ensures ascend { IfOk result (λ sorted. AscendPlaces (map (λ item. item.now) sorted.items)) }

@@ -27,7 +27,8 @@ pub struct RowProgress<'a> {
     pub percent: u8,
 }
 
-/// The rows that have a progress, in their order, each with it. Where no row has one it takes no memory, and the answer is Ok.
+/// The rows that have a progress, in their order, each with its progress. Fails if an allocation fails. Allocates nothing if no row
+/// has one.
 pub fn progress_records<'a>(
     alloc: Global,
     rows: &'a [Row],

@@ -1,6 +1,6 @@
 //! The reports over kept items.
 
-/// A report over the kept items of a desk. Its lines are by UID, then the to-do as a whole before its instances and ranges by
+/// A report over the kept items of a desk. Its lines are ordered by UID, then the to-do as a whole before its instances and ranges by
 /// moment, an instance before a range of its moment, then by attendee, an answer before a refresh request.
 #[derive(Clone, Copy, Debug, PartialEq, Eq)]
 pub enum Report {

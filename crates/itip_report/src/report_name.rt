@@ -1,6 +1,6 @@
-//! What the reports of a desk are called.
+//! The names of the reports of a desk.
 
-/// A report of a desk, by its name.
+/// The name of a report of a desk.
 #[derive(Clone, Copy, Debug, PartialEq, Eq)]
 pub enum ReportName {
     /// How many rows show each attendee.
@@ -33,7 +33,7 @@ impl ReportName {
         }
     }
 
-    /// Whether the report tells of the rows of a window, of which there may be too many.
+    /// Whether the report is of the rows of a window, which may be too many.
     pub fn is_of_rows(self) -> bool
         ensures { IsTrue result ↔ IsOfRows self }
     {

@@ -10,7 +10,8 @@ use itip_items::Item;
 use itip_state::{ItemsOfUid, State};
 use std::alloc::Global;
 
-/// The kept items that a report is about, by place: its lines are the texts of these. Where nothing is kept it takes no memory.
+/// The kept items that a report is about, by place: its lines are the texts of these. Fails if an allocation fails. Allocates nothing
+/// if nothing is kept.
 pub fn report_items<'a>(
     alloc: Global,
     state: &'a State,
@@ -25,7 +26,7 @@ pub fn report_items<'a>(
     all_reported(alloc, state, report)
 }
 
-/// The same, where something is kept.
+/// The same, if something is kept.
 fn all_reported<'a>(
     alloc: Global,
     state: &'a State,

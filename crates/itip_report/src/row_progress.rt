@@ -10,7 +10,7 @@ use itip_view::{Row, RowId};
 use std::alloc::Global;
 
 /// `uid id n` for each row that has a progress, in the order of the rows: its identifier as the list shows it, and the percentage.
-/// Where no row has one it takes no memory, and the answer is Ok.
+/// Fails if an allocation fails. Allocates nothing if no row has a progress.
 pub fn progress(alloc: Global, rows: &[Row]) -> Result<Vec<String>, NoMemory>
     ensures lines { IfOk result (λ lines. map string_bytes lines.items ≡ progress_lines rows.now) }
     ensures succeeds { progress_lines rows.now ≡ [] → IsOk result }
@@ -37,7 +37,7 @@ fn progress_line(alloc: Global, row: &Row, percent: u8) -> Result<String, NoMemo
     Ok(line)
 }
 
-/// The identifier of a row, as the list shows it.
+/// Appends the identifier of a row, as the list shows it.
 fn put_id(alloc: Global, line: &mut String, id: &RowId) -> Result<(), NoMemory>
     ensures { OnOk result (string_bytes line.new ≡ string_bytes line.old ++ id_text id.now) }
 {

@@ -22,16 +22,16 @@ use std::alloc::Global;
 pub(crate) enum Sought<'v, 'a> {
     /// Instance and range items that stand.
     Standing,
-    /// What cancels the to-do, an instance, or all from one on.
+    /// Items that cancel the to-do, an instance, or all from one on.
     Cancelled,
     /// Answers and refresh requests that belong to nothing.
     Orphans,
-    /// Refresh requests that are newer than what governs, which a range item may do.
+    /// Refresh requests that are newer than the item that governs, which may be a range item.
     Wanted(Ranges<'v, 'a>),
 }
 
 impl<'v, 'a> Sought<'v, 'a> {
-    /// What a report looks for. The range items that stand are found once, for the report that is measured by them.
+    /// What a report looks for. The range items that stand are found once, for the report that needs them.
     pub(crate) fn by(
         alloc: Global,
         report: Report,
@@ -91,7 +91,7 @@ fn is_standing(items: &ItemsOfUid<'_>, item: &Item) -> bool
     }
 }
 
-/// Whether an item cancels the to-do, or an instance at which it stands, or all from one on.
+/// Whether one of the kept items of a UID cancels the to-do, or stands and cancels an instance or all from one on.
 fn is_cancellation(items: &ItemsOfUid<'_>, item: &Item) -> bool
     requires { IsAmong items.now item.now }
     ensures { IsTrue result ↔ IsCancellation items.now.items item.now }
@@ -105,7 +105,7 @@ fn is_cancellation(items: &ItemsOfUid<'_>, item: &Item) -> bool
     }
 }
 
-/// Whether an item is of an attendee, and neither the to-do nor the instance that it names is known.
+/// Whether one of the kept items of a UID is of an attendee, and neither the to-do nor the instance that it names is known.
 fn is_orphan(items: &ItemsOfUid<'_>, item: &Item) -> bool
     requires { IsAmong items.now item.now }
     ensures { IsTrue result ↔ IsOrphan items.now.items item.now }
@@ -119,7 +119,7 @@ fn is_orphan(items: &ItemsOfUid<'_>, item: &Item) -> bool
     }
 }
 
-/// Whether no instance item is kept at the instance that is named, where one is named.
+/// Whether no instance is named, or no instance item is kept at the one that is.
 fn none_at_instance(items: &ItemsOfUid<'_>, id: &Option<Moment>) -> bool
     ensures { IsTrue result ↔ NoneAtInstance items.now.items items.now.uid id.now }
 {
@@ -129,8 +129,8 @@ fn none_at_instance(items: &ItemsOfUid<'_>, id: &Option<Moment>) -> bool
     }
 }
 
-/// Whether one of the kept items of a UID is a refresh request that is newer than the item that governs what it names; `ranges` are
-/// those of the same items. It takes no memory.
+/// Whether one of the kept items of a UID is a refresh request that is newer than the item that governs what it names; `ranges` have
+/// to be those of the same items. Allocates nothing.
 pub fn is_wanted<'a>(items: &ItemsOfUid<'a>, ranges: &Ranges<'_, 'a>, item: &Item) -> bool
     requires ranges { ranges.now ≡ items.now }
     requires among { IsAmong items.now item.now }

@@ -12,11 +12,11 @@ batches_more (g ∷ gs) hs = ap (λ (l : List Items). g ++ l) (batches_more gs h
 pub batches_push : (gs : List Group) (g : Group) → batches_of (gs ++ g ∷ []) ≡ batches_of gs ++ g
 batches_push gs g = batches_more gs (g ∷ []) ∙ ap (λ (l : List Items). batches_of gs ++ l) (append-nil g)
 
--- where some groups begin others, so do their batches
+-- if some groups begin others, so do their batches
 pub prefix_batches : (xs ys : List Group) → IsPrefix xs ys → IsPrefix (batches_of xs) (batches_of ys)
 prefix_batches xs ys p = (batches_of p.0, sym (batches_more xs p.0) ∙ ap batches_of p.1)
 
--- groups that begin others still do where these go on
+-- groups that begin others still do when these go on
 pub begins_more : (gs all : List Group) (g : Group) → all ≡ gs ++ drop (length gs) all →
     all ++ g ∷ [] ≡ gs ++ drop (length gs) (all ++ g ∷ [])
 begins_more [] all g begins = refl
@@ -31,7 +31,7 @@ begins_all gs all same =
     subst (λ (l : List Group). all ≡ l ++ drop (length l) all) (sym same)
     (sym (ap (λ (l : List Group). all ++ l) (drop_all (length all) all (omega arith)) ∙ append-nil all))
 
--- where one more batch is fresh, one more is pending
+-- if one more batch is fresh, one more is pending
 pub whole_more : (all fresh shown pending : List Items) (b : Items) → all ++ fresh ≡ shown ++ pending →
     all ++ (fresh ++ b ∷ []) ≡ shown ++ (pending ++ b ∷ [])
 whole_more all fresh shown pending b whole =

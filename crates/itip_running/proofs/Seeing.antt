@@ -21,7 +21,7 @@ use Rattle.itip_running.specs.declared.error.PassError.TheVariants as pass
 use Rattle.itip_running.specs.Deltas.{IsDeltaAfter}
 use Rattle.itip_running.specs.Parts.{HasRowsOf, HasRowsFor, AreKeptOf}
 
--- a desk that takes a batch is the desk of one batch more
+-- a desk that takes a batch is the desk of one more batch
 pub stepped : (steps : List (List Item)) (old new : Shown) (batch : List Item) →
     ((s : List (List Item)) (start : ℕ) → IsDeskOf s start old → IsDeskOf (s ++ batch ∷ []) start new)
     → ∥ IsDeskOf steps 0 old ∥₁ → ∥ IsDeskOf (steps ++ batch ∷ []) 0 new ∥₁
@@ -39,7 +39,7 @@ delta_after steps desk since batch delta is = record {
       (λ h. (k.0 (s.0 h).0, c.0 (s.0 h).1), λ h. s.1 (k.1 h.0, c.1 h.1));
 }
 
--- a pass refuses a list for its length where the desk did
+-- a pass refuses a list for its length if the desk did
 pub too_many_rows : (fault : ViewError) → of_view fault ≡ pass.TooManyRows → fault ≡ view.TooManyRows
 too_many_rows view.TooManyRows e = refl
 too_many_rows view.NoMemory e = absurd (cc e)

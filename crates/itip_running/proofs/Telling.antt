@@ -1,4 +1,4 @@
--- The telling of a history's name keeps the rule.
+-- Telling the name of a history keeps the rule.
 use Rattle.std.proofs.Common.{◌≡◌, ℕ, ◌≢◌, List, true, set, subst, ⊎_elim}
 use mathlib.Core.Option.{some}
 use lib.ListN.{get_elem?}

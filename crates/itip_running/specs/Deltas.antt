@@ -1,4 +1,4 @@
--- What changed after a tick, in the words of what was heard (our own rule).
+-- What changed after a tick, in terms of what was heard (our own rule).
 use Rattle.std.specs.Prelude.{◌↔◌, ℕ, List, []}
 use Rattle.std.specs.List.{Contains}
 use Rattle.itip_items.specs.KeyParts.{uid_of}
@@ -7,8 +7,8 @@ use Rattle.itip_state.specs.Kept.{IsKept}
 use Rattle.itip_desk.specs.Heard.{heard, MovedAfter}
 use Rattle.itip_desk.specs.Octets.{AscendOctets}
 
--- The kept items of the UIDs that moved in a step which left the tick above `since`, by canonical octets, each once.
--- The steps began at tick 0.
+-- The kept items of the UIDs that moved in a step that left the tick above `since`, by canonical bytes, each once. The steps began at
+-- tick 0.
 pub record IsDeltaAfter (steps : List (List Item)) (since : ℕ) (batch : List Item) : Type 0 where
   pub ascend : AscendOctets batch
   pub same : (item : Item) → Contains batch item ↔ (IsKept (heard steps) item × MovedAfter [] 0 steps since (uid_of item.key))

@@ -12,8 +12,8 @@ use Rattle.itip_running.specs.declared.receipt.Receipt.{Receipt}
 use Rattle.itip_running.specs.declared.keeper.Keeper.{Keeper}
 use Rattle.itip_running.specs.declared.pass.Pass.{Pass}
 
--- Of the keeper's end of a pair: the value that is shown, the groups that are published and their batches, those that are
--- pending, the groups of all calls of `publish`, the batches that were submitted since the last of them, and which pair it is.
+-- For the keeper's end of a pair: the value that is shown, the published groups and their batches, the pending batches, the groups of all
+-- calls of `publish`, the batches that were submitted since the last of them, and which pair it is.
 abbrev pub shown_value : WriteEnd → Published
 shown_value e = e.writer.desk.shown.value
 
@@ -35,7 +35,7 @@ writer_fresh e = e.fresh
 abbrev pub writer_pair : WriteEnd → Book
 writer_pair e = e.last.seen.book
 
--- Of a reader's end: the published groups that it has seen, and which pair it is.
+-- For a reader's end: the published groups that it has seen, their batches, and which pair it is.
 abbrev pub reader_groups : ReadEnd → List Group
 reader_groups e = e.front.seen.log
 
@@ -73,7 +73,7 @@ publishes k = end_groups k.end
 abbrev pub published : Keeper → List (List Item)
 published k = batches_of (publishes k)
 
--- the batches that were submitted since
+-- the batches that were submitted but aren't published
 abbrev pub pending : Keeper → List (List Item)
 pending k = end_pending k.end
 
@@ -121,13 +121,13 @@ told r = batches_of r.front.seen.log
 abbrev pub receipt_pair : Receipt → Option Book
 receipt_pair r = Some r.front.seen.book
 
--- What a call of `publish` leaves that was refused: nothing more is published, and the same is pending; its group is one of a call, or it
--- was none.
+-- What a refused call of `publish` leaves: nothing more is published, and the same batches are pending; its group was added to those of
+-- all calls, or it wasn't.
 pub record IsRefusedCall (groups calls : List Group) (fresh : Group) (groups' calls' : List Group) (fresh' : Group) : Type 0 where
   pub groups_are : groups' ≡ groups
   pub calls_are : ((calls' ≡ calls) × (fresh' ≡ fresh)) ⊎ ((calls' ≡ calls ++ fresh ∷ []) × (fresh' ≡ []))
 
--- What a call of `publish` leaves that published all that was pending, at once, behind what was published before.
+-- What a call of `publish` leaves that published all that was pending, at once, after what was published before.
 pub record IsShownCall (groups calls : List Group) (fresh : Group) (groups' calls' : List Group) (fresh' : Group) : Type 0 where
   pub groups_are : groups' ≡ calls ++ fresh ∷ []
   pub grows : IsPrefix groups groups'

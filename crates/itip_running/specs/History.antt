@@ -17,7 +17,7 @@ abbrev pub batches_of : List Group → List Items
 batches_of [] = []
 batches_of (group ∷ groups) = group ++ batches_of groups
 
--- The first word is the length of the history. A book has two words, of which this one leaves the second at 0.
+-- The first word is the length of the history. A book has two words; this one leaves the second at 0.
 pub record IsCounted (cells : List Cell) (log : List Group) : Type 0 where
   pub words : cells ≡ (length log, true) ∷ (0, true) ∷ []
 
@@ -25,6 +25,6 @@ pub record IsCounted (cells : List Cell) (log : List Group) : Type 0 where
 abbrev pub head_of : Book → Named
 head_of b = record { tracked = true; key = 0; book = b }
 
--- the group was added to all that had been seen, or the history was of another length
+-- the group was added to all that had been seen, or the history had another length
 abbrev pub Adds : Step Group → View Group ℕ → ℕ → View Group ℕ → Type 0
 Adds s v found w = MatchBool (found == s.old) (w.0 ≡ v.0 ++ s.ask ∷ []) (length w.0 ≡ found)

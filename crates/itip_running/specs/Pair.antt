@@ -27,7 +27,7 @@ takes [] = []
 takes (Take b ∷ ops) = b ∷ takes ops
 takes (Mark f ∷ ops) = takes ops
 
--- the groups that are published where this value is shown
+-- the groups that are published when this value is shown
 abbrev pub published_groups : Published → List Group
 published_groups x = x.front.seen.log
 
@@ -35,7 +35,7 @@ published_groups x = x.front.seen.log
 abbrev pub published_log : Published → List Items
 published_log x = batches_of x.front.seen.log
 
--- the batches among the operations that readers do not see yet: all but so many at the front
+-- the batches among the operations that readers don't see yet: all but the first `behind`
 abbrev pub pending_log : ℕ → List Op → List Items
 pending_log behind ops = takes (drop behind ops)
 

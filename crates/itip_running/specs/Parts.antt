@@ -1,4 +1,4 @@
--- What a pass takes out of a desk for the rows that it makes outside: a part that has the same rows (our own form).
+-- What a pass takes out of a desk for the rows that it makes after the read: a part that has the same rows (our own form).
 use Rattle.std.specs.Prelude.{◌≡◌, ◌↔◌, ℕ, List}
 use Rattle.std.specs.List.{Contains}
 use Rattle.itip_items.specs.KeyParts.{uid_of}

@@ -11,19 +11,19 @@ use thiserror::Error;
 /// Why a keeper published nothing, or a pair was not made or not taken apart.
 #[derive(Clone, Copy, PartialEq, Eq, Debug, Drop, Error)]
 pub enum LiveError {
-    /// Out of memory (40).
+    /// An allocation failed (40).
     #[error("no memory for a running desk")]
     NoMemory,
-    /// The pair gave no place to a reader, or a pass or the history is ahead of its keeper, which no run of one pair meets
-    /// (41).
+    /// The pair gave no place to a reader, or there were not one to eight passes; or a pass or the history is ahead of its keeper, which
+    /// no run of one pair meets (41).
     #[error("no place at a running desk")]
     NoPlace,
-    /// The number of published batches would pass `u64::MAX` (21).
+    /// The number of published batches would exceed `u64::MAX` (21).
     #[error("no further batch can be counted")]
     BatchesSpent,
 }
 
-/// A batch that a keeper did not take: out of memory, or `usize::MAX` batches are pending (40).
+/// A batch that a keeper didn't take: an allocation failed, or `usize::MAX` batches are pending (40).
 #[derive(Debug, Drop, Error)]
 #[error("no memory for a further batch")]
 pub struct NotSubmitted {
@@ -34,17 +34,17 @@ pub struct NotSubmitted {
 /// Why a pass has no answer.
 #[derive(Clone, Copy, PartialEq, Eq, Debug, Drop, Error)]
 pub enum PassError {
-    /// More than 100,000 rows stand in the window (31).
+    /// More than 100,000 rows in the window are asked for (31).
     #[error("there are too many rows")]
     TooManyRows,
-    /// Out of memory for a list (32).
+    /// An allocation failed for a list or for rows (32).
     #[error("no memory to list")]
     NoListMemory,
-    /// Out of memory for a delta (40).
+    /// An allocation failed for a delta or for kept items (40).
     #[error("no memory for a delta")]
     NoMemory,
-    /// The pair refused the entry, as it does once it is taken apart, or showed less than the pass has seen, which no run of
-    /// one pair meets (45).
+    /// The pair refused entry, as it does once it is taken apart, or showed less than the pass has seen, which no run of one pair meets
+    /// (45).
     #[error("no entry to a running desk")]
     NoEntry,
 }

@@ -8,14 +8,14 @@ use crate::history_rule::{Add, Law, Nothing};
 use logbook::{Offer, Seen, Start, Word};
 use std::snapshot::Snapshot;
 
-/// A beginning of the history. What runs has two numbers alone.
+/// A beginning of the history. At run time it is only two numbers.
 #[derive(Drop)]
 pub(crate) struct Front {
     /// How many groups of batches it has.
     pub(crate) count: u64,
     /// How many batches they have together.
     pub(crate) batches: u64,
-    /// The beginning itself, which exists in the proofs alone (`logbook`).
+    /// The beginning itself, which exists only in the proofs (`logbook`).
     pub(crate) seen: Seen<History, u64, Law>,
     ghost counted: { count ≡ length seen.log },
     ghost summed: { batches ≡ length (batches_of seen.log) },
@@ -24,7 +24,7 @@ pub(crate) struct Front {
 /// The one word by which a history grows.
 pub(crate) type Head = Word<History, u64, Law>;
 
-/// A new history, with nothing in it.
+/// A new, empty history.
 pub(crate) fn open() -> (Head, Front)
     ensures head { result.0 ≡ head_of result.1.seen.book }
     ensures empty { result.1.seen.log ≡ [] }
@@ -39,7 +39,7 @@ pub(crate) fn open() -> (Head, Front)
 }
 
 impl Front {
-    /// The same beginning once more.
+    /// A copy of this beginning.
     pub(crate) fn again(&self) -> Front
         ensures { result.seen ≡ self.now.seen }
     {
@@ -50,7 +50,7 @@ impl Front {
         }
     }
 
-    /// Whether the other begins with all of this. Of two beginnings of one history the shorter begins the longer, so their lengths tell.
+    /// Whether `other` begins with all of this. Of two beginnings of one history the shorter begins the longer, so their lengths decide.
     pub(crate) fn begins(&self, other: &Front) -> bool
         requires book { other.now.seen.book ≡ self.now.seen.book }
         ensures { MatchBool result (IsPrefix self.now.seen.log other.now.seen.log)
@@ -64,8 +64,8 @@ impl Front {
         false
     }
 
-    /// The history with one group more, which has so many batches in all. Nothing where it can't be counted, or where another has added
-    /// to the history, as nobody else can.
+    /// The history with one more group, which has `batches` batches in all. `None` if its groups can't be counted, or if someone else has
+    /// added to the history, which nobody else can.
     pub(crate) fn followed_by(
         &self,
         head: &Head,

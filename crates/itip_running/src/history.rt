@@ -1,4 +1,4 @@
-//! A list of batches, which has no bytes.
+//! A list of batches that takes up no bytes.
 ghost use Rattle.std.specs.Prelude.{◌≡◌, [], ◌∷◌, ◌++◌};
 
 use itip_desk::Batch;
@@ -6,7 +6,7 @@ use logbook::{Opening, Rule, Seen, Start};
 use std::marker::Model;
 use std::snapshot::Snapshot;
 
-/// The rule of a book in which anything may stand.
+/// The rule of a book that may hold anything.
 pub(crate) struct Free;
 
 impl Rule<Batch, u64> for Free {
@@ -45,7 +45,7 @@ impl Model for History {
     ghost view = { λ h. h.seen.log };
 }
 
-/// A list, and a batch to stand behind it.
+/// A list, and a batch to append to it.
 #[derive(Drop)]
 pub(crate) struct OneMore {
     before: Snapshot<History>,
@@ -69,7 +69,7 @@ impl Opening<OneMore, Batch> for Push {
 }
 
 impl History {
-    /// No batch.
+    /// The empty list.
     pub(crate) fn empty() -> History
         ensures { result ≡ [] }
     {
@@ -77,7 +77,7 @@ impl History {
         History { seen }
     }
 
-    /// With one batch more.
+    /// The list with one more batch.
     pub(crate) fn followed_by(&self, batch: &Batch) -> History
         ensures { result ≡ self.now ++ batch.now ∷ [] }
     {

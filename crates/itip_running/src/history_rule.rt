@@ -1,4 +1,4 @@
-//! The history of a desk, the list of what each call of `publish` was to show, which exists in the proofs alone.
+//! The history of a desk: the list of what each call of `publish` was to show. It exists only in the proofs.
 
 use crate::history::History;
 use logbook::{Gain, Plain, Play, Rule};
@@ -25,7 +25,7 @@ impl Rule<History, u64> for Law {
     ghost moves = { λ ask before after answer. Unit {0} };
 }
 
-/// Who adds to the history gets nothing for it.
+/// Adding to the history gains nothing.
 pub(crate) struct Nothing;
 
 impl Gain<History, u64> for Nothing {

@@ -10,10 +10,10 @@ use itip_desk::Batch;
 use std::mem;
 use std::sync::Wait;
 
-/// The one that merges batches into a running desk. Contracts see two lists of batches: those that are published, and
-/// those that are pending; and of the published ones the groups in which they were published, each at once.
+/// Merges batches into a running desk. Contracts see two lists of batches, the published and the pending ones, and the groups in which
+/// the published ones were published, each at once.
 ///
-/// It is not `Drop`, since taking it apart waits for readers: hand it to `meet`.
+/// It isn't `Drop`, since taking it apart waits for readers: pass it to [`meet`](crate::meet).
 pub struct Keeper {
     pub(crate) end: Option<WriteEnd>,
     ghost there: { IsSome end },
@@ -25,7 +25,7 @@ impl Keeper {
 
     /// Adds a batch after those that are pending.
     ///
-    /// Refused when out of memory, or where `usize::MAX` batches are pending; the error has the batch, and nothing has changed then.
+    /// Refused if an allocation fails, or if `usize::MAX` batches are pending: the error has the batch, and nothing has changed.
     pub fn submit(&mut self, batch: Batch) -> Result<(), NotSubmitted>
         ensures published { published self.new ≡ published self.old }
         ensures pending { MatchResult result (λ _. pending self.new ≡ pending self.old ++ batch ∷ [])
@@ -43,7 +43,7 @@ impl Keeper {
         }
     }
 
-    /// How many batches are pending.
+    /// The number of pending batches.
     pub fn pending(&self) -> usize
         ensures { result ≡ length (pending self.now) }
     {
@@ -53,7 +53,7 @@ impl Keeper {
         }
     }
 
-    /// Whether all that a receipt tells is published. It is, in every run: `false` is answered where the receipt is ahead of the keeper.
+    /// Whether all that a receipt tells is published. In every run it is: `false` would mean that the receipt is ahead of the keeper.
     #[tactic(auto, using(crate::proofs::Groups::prefix_batches))]
     pub fn has_published(&self, receipt: &Receipt) -> bool
         requires pair { receipt_pair receipt.now ≡ keeper_pair self.now }
@@ -65,12 +65,12 @@ impl Keeper {
         }
     }
 
-    /// Publishes all that is pending, at once, and gives a receipt of all that is published then. It waits for passes that
-    /// read. What is pending is one group of batches, behind those of calls that were refused: no pass ever sees a part of a group.
+    /// Publishes all that is pending at once, and returns a receipt of all that is then published. Waits for passes that are reading.
+    /// What is pending is one group of batches, preceded by those of calls that were refused; no pass ever sees a part of a group.
     ///
-    /// Refused when out of memory (40), and exactly where the number of published batches would pass `u64::MAX` (21). 41
-    /// where the group could not be added to the history, which no run meets. After a refusal nothing more is
-    /// published, and what was pending is still pending.
+    /// Fails with [`LiveError::NoMemory`] (40) if an allocation fails, with [`LiveError::BatchesSpent`] (21) exactly if the number of
+    /// published batches would exceed `u64::MAX`, and with [`LiveError::NoPlace`] (41) if the group can't be added to the history, which
+    /// no run meets. Then nothing more is published, and what was pending still is.
     pub fn publish<R: Wait>(&mut self, rt: &R) -> Result<Receipt, LiveError>
         ensures whole { OnOk result ((published self.new ≡ published self.old ++ pending self.old) × (pending self.new ≡ [])) }
         ensures at_once { OnOk result (IsShownCall (publishes self.old) (calls self.old) (fresh self.old)

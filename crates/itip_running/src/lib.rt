@@ -1,10 +1,10 @@
-//! Running desks: one keeper merges batches into a desk while passes read it, each on a thread of its own, with no lock.
+//! Running desks: one keeper merges batches into a desk while passes read it, each on its own thread, without locks.
 //!
-//! A keeper submits batches and publishes them, all that are pending at once. A pass lists the desk as it was published,
-//! and never goes back. A receipt tells a pass what was published when it was given; it may be copied, and go through a
-//! channel. `meet` ends it all, once the threads have returned. There are two copies of the desk: passes read one while the
-//! keeper merges into the other, and publishing exchanges them (`left_right`). What each publish was to show, in order, is a
-//! history whose list exists in the proofs alone (`logbook`); what a pass has seen is a beginning of it.
+//! A keeper takes batches and publishes all that are pending at once. A pass lists the desk as it was published, and never goes back. A
+//! receipt tells a pass what was published when it was given; it may be copied, and sent through a channel. `meet` ends it all, once the
+//! threads have returned. There are two copies of the desk: passes read one while the keeper merges into the other, and publishing
+//! exchanges them (`left_right`). What each publish was to show, in order, is a history whose list exists only in the proofs (`logbook`);
+//! what a pass has seen is a beginning of it.
 #![tactic(auto)]
 
 mod error;

@@ -26,7 +26,7 @@ use itip_todo::Uid;
 use itip_view::{Row, Window};
 use std::alloc::Global;
 
-/// An open read of what is published. It is not `Drop`: leave it by `close`.
+/// An open read of what is published. It isn't `Drop`: leave it with `close`.
 pub(crate) struct Look {
     pub(crate) alloc: Global,
     pub(crate) reading: PublishedReading,
@@ -47,7 +47,7 @@ impl Look {
         &self.reading.get().desk
     }
 
-    /// Leaves, with all of it seen.
+    /// Leaves the read, with all of it seen.
     fn close(self) -> ReadEnd
         ensures { result.front.seen ≡ self.front.seen }
     {
@@ -65,9 +65,9 @@ impl Look {
         }
     }
 
-    /// The text of the task list in a window. Where something was published since the last look, a writer is about: then only what the
-    /// list is made of is taken during the read, each item shared, so that the keeper waits for no row. Else the list is made here, and
-    /// nothing is copied.
+    /// The text of the task list in a window. If something was published since the last look, the keeper is active: then only what the
+    /// list is made of is taken during the read, each item shared, so that the keeper waits for no row. Otherwise the list is made here,
+    /// and nothing is copied.
     pub(crate) fn list(self, window: Window) -> (ReadEnd, Result<Vec<u8>, PassError>)
         ensures text { IfOk result.1 (λ text. IsListText (heard (reader_seen result.0)) window text.items) }
         ensures many { IsErrOf result.1 PassError.TooManyRows → AreTooMany (heard (reader_seen result.0)) window }
@@ -103,7 +103,7 @@ impl Look {
         }
     }
 
-    /// The text of the rows in a window that show the attendee of an address, made as that of the task list is.
+    /// The text of the rows in a window that show the attendee with this address, made like that of the task list.
     pub(crate) fn list_for(
         self,
         window: Window,
@@ -145,7 +145,7 @@ impl Look {
         }
     }
 
-    /// The rows of a window, which are made once the read is over.
+    /// The rows of a window, made once the read is over.
     pub(crate) fn rows(self, window: Window) -> (ReadEnd, Result<Vec<Row>, PassError>)
         ensures rows { IfOk result.1 (λ rows. AreRows (heard (reader_seen result.0)) window rows.items) }
         ensures few { IfOk result.1 (λ rows. length rows.items ≤ row_limit) }
@@ -164,7 +164,7 @@ impl Look {
         }
     }
 
-    /// The rows of a window that show the attendee of an address, which are made once the read is over.
+    /// The rows of a window that show the attendee with this address, made once the read is over.
     pub(crate) fn rows_for(
         self,
         window: Window,
@@ -187,7 +187,7 @@ impl Look {
         }
     }
 
-    /// What is kept of the items that the rows of a window are made of. In the read they are shared, and behind it put in order.
+    /// What is kept of the items that the rows of a window are made of. They are shared during the read, and put in order after it.
     fn part_in(self, window: Window) -> (ReadEnd, Result<State, PassError>)
         ensures rows { IfOk result.1 (λ part. HasRowsOf part (heard (reader_seen result.0)) window) }
         ensures cause { IfErr result.1 (λ e. e ≡ PassError.NoListMemory) }
@@ -204,7 +204,7 @@ impl Look {
         }
     }
 
-    /// What is kept of the items that the rows are made of that show the attendee of an address, taken as those of a window are.
+    /// What is kept of the items of which the rows that show the attendee with this address are made, taken like those of a window.
     fn part_naming(self, address: &str) -> (ReadEnd, Result<State, PassError>)
         ensures rows { IfOk result.1 (λ part. HasRowsFor address.now part (heard (reader_seen result.0))) }
         ensures cause { IfErr result.1 (λ e. e ≡ PassError.NoListMemory) }

@@ -23,8 +23,8 @@ pub struct Met {
     pub seen: Vec<u64>,
 }
 
-/// How many batches each pass has seen, in the order of the passes. Refused when out of memory (40), or where a pass has
-/// seen more than the front (41).
+/// How many batches each pass has seen, in the order of the passes. Refused if an allocation fails (40), or if a pass has seen more than
+/// the front (41).
 fn counts(alloc: Global, front: &Front, passes: &[Pass]) -> Result<Vec<u64>, LiveError>
     requires pair { All (λ p. pass_pair p ≡ Some front.now.seen.book) passes.now }
     ensures counts { IfOk result (λ v. v.items ≡ map (λ p. length (seen p)) passes.now) }
@@ -43,13 +43,11 @@ fn counts(alloc: Global, front: &Front, passes: &[Pass]) -> Result<Vec<u64>, Liv
     Ok(all)
 }
 
-/// Takes a pair apart, once the threads have returned: a keeper, and any of its passes, perhaps none. What was still
-/// pending is dropped.
+/// Takes a pair apart, once the threads have returned: a keeper and any of its passes, possibly none. What is still pending is dropped.
 ///
-/// The desk is that of all published batches, from tick 0, and what each pass had seen is a beginning of these, and all of some of
-/// their groups. Refused
-/// when out of memory (40), or where a pass has seen more batches than were published, which no run of one pair meets
-/// (41); keeper and passes are spent then too.
+/// The desk is that of all published batches, from tick 0. What each pass had seen is a beginning of these, of whole groups. Fails with
+/// [`LiveError::NoMemory`] (40) if an allocation fails, and with [`LiveError::NoPlace`] (41) if a pass has seen more batches than were
+/// published, which no run of one pair meets. The pair is taken apart all the same.
 pub fn meet<R: Wait>(rt: &R, keeper: Keeper, passes: Vec<Pass>) -> Result<Met, LiveError>
     requires pair { All (λ p. pass_pair p ≡ keeper_pair keeper) passes.items }
     ensures desk { IfOk result (λ m. IsDeskOf (published keeper) 0 m.desk) }

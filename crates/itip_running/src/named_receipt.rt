@@ -1,11 +1,11 @@
-//! A receipt that goes through a channel.
+//! A receipt that is sent through a channel.
 ghost use Rattle.std.specs.Prelude.{◌≡◌};
 ghost use Rattle.itip_running.specs.Ends.{publishes_told, receipt_pair};
 
 use crate::receipt::Receipt;
 use std::marker::{Brand, Model, PhantomData};
 
-/// Which pair it is. A function that is generic in it is called at [`Brand`], and the call picks the pair, as that of its keeper.
+/// Names a pair. A function that is generic over it is called with [`Brand`], and the call picks the pair, such as that of its keeper.
 pub trait Naming {
     ghost use Rattle.std.specs.Prelude.{Option};
     ghost use Rattle.logbook.specs.Pages.{Book};
@@ -19,8 +19,8 @@ impl Naming for Brand {
     ghost pair = { None };
 }
 
-/// A receipt whose type says of which pair it is. Of a message nothing is known but its type: one who gets this from a channel knows that
-/// passes of the pair may learn it. Contracts see it as what it tells, the groups of batches that were published.
+/// A receipt whose type says which pair it is of. Nothing is known of a message but its type, so whoever receives this from a channel
+/// knows that passes of the pair may learn it. Contracts see it as what it tells: the groups of batches that were published.
 #[derive(Drop)]
 pub struct NamedReceipt<N: Naming> {
     receipt: Receipt,
@@ -43,7 +43,7 @@ impl<N: Naming> Model for NamedReceipt<N> {
 }
 
 impl<N: Naming> NamedReceipt<N> {
-    /// This receipt, which is of the pair that the type names.
+    /// Wraps a receipt of the pair that the type names.
     pub fn new(receipt: Receipt) -> NamedReceipt<N>
         requires pair { receipt_pair receipt ≡ N.pair }
         ensures told { result ≡ publishes_told receipt }
@@ -54,7 +54,7 @@ impl<N: Naming> NamedReceipt<N> {
         }
     }
 
-    /// A copy, which tells the same. It takes no memory.
+    /// Returns a copy, which tells the same. It doesn't allocate.
     pub fn again(&self) -> NamedReceipt<N>
         ensures told { result ≡ self.now }
     {
@@ -64,7 +64,7 @@ impl<N: Naming> NamedReceipt<N> {
         }
     }
 
-    /// The receipt itself.
+    /// Returns the receipt itself.
     pub fn into_receipt(self) -> Receipt
         ensures told { publishes_told result ≡ self }
         ensures pair { receipt_pair result ≡ N.pair }

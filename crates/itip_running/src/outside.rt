@@ -11,7 +11,7 @@ use itip_state::{SharedItem, State};
 use itip_view::{Row, RowCount, RowsByUid, Wanted, Window, rows};
 use std::alloc::Global;
 
-/// The state of items.
+/// The state of these items.
 pub(crate) fn state_of(alloc: Global, items: &[SharedItem]) -> Result<State, PassError>
     ensures kept { IfOk result (λ state. AreKept state items.now) }
     ensures cause { IfErr result (λ e. e ≡ PassError.NoListMemory) }
@@ -22,7 +22,7 @@ pub(crate) fn state_of(alloc: Global, items: &[SharedItem]) -> Result<State, Pas
     }
 }
 
-/// The text of the rows of a state in a window. Beside the text the rows of one UID are held.
+/// The text of the rows of a state in a window. Besides the text, only the rows of one UID are held.
 pub(crate) fn text_in(alloc: Global, state: &State, window: Window) -> Result<Vec<u8>, PassError>
     ensures text { IfOk result (λ text. IsListText state.now window text.items) }
     ensures many { IsErrOf result PassError.TooManyRows → AreTooMany state.now window }
@@ -35,7 +35,7 @@ pub(crate) fn text_in(alloc: Global, state: &State, window: Window) -> Result<Ve
     text_of(&rows)
 }
 
-/// The text of the rows of a state in a window that show the attendee of an address.
+/// The text of the rows of a state in a window that show the attendee with this address.
 pub(crate) fn text_for(
     alloc: Global,
     state: &State,
@@ -54,7 +54,7 @@ pub(crate) fn text_for(
     text_of(&rows)
 }
 
-/// The text of rows, which are made a UID at a time.
+/// The text of rows, which are made one UID at a time.
 fn text_of(rows: &RowsByUid<'_, '_>) -> Result<Vec<u8>, PassError>
     ensures text { IfOk result (λ text. IsTextLeft rows.now text.items) }
     ensures many { IsErrOf result PassError.TooManyRows → AreTooManyLeft rows.now }
@@ -81,7 +81,7 @@ pub(crate) fn rows_in(alloc: Global, state: &State, window: Window) -> Result<Ve
     }
 }
 
-/// The rows of a state in a window that show the attendee of an address. They are counted before one is made.
+/// The rows of a state in a window that show the attendee with this address. They are counted before any is made.
 pub(crate) fn rows_for(
     alloc: Global,
     state: &State,

@@ -30,13 +30,13 @@ impl Outcome<Published, KnownHistory> for Sees {
 /// A reader of the pair.
 pub(crate) type PublishedReader = Reader<Published, KnownHistory, Ties>;
 
-/// A read that is open.
+/// An open read.
 pub(crate) type PublishedReading = Reading<Published, KnownHistory, Ties>;
 
 /// The writer of the pair.
 pub(crate) type PublishedWriter = Writer<Published, Op, KnownHistory, Ties>;
 
-/// What the keeper knows is told to a reader.
+/// Tells a reader what the keeper knows.
 pub(crate) struct Tells;
 
 impl Split<KnownHistory> for Tells {

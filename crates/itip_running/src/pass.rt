@@ -11,8 +11,8 @@ use itip_state::{SharedItem, State};
 use itip_todo::Uid;
 use itip_view::{Row, Window};
 
-/// The right to read a running desk, on any thread. It waits for nobody. Contracts see the list of the published groups of batches
-/// that it has seen, which only grows: what it has seen is always everything up to the end of some publish.
+/// The right to read a running desk, on any thread. It never waits. Contracts see the list of published groups of batches that it has
+/// seen, which only grows: what it has seen is always everything up to the end of some publish.
 #[derive(Drop)]
 pub struct Pass {
     pub(crate) end: Option<ReadEnd>,
@@ -29,11 +29,12 @@ impl Pass {
     ghost use Rattle.itip_running.specs.Parts.{AreKeptOf};
     ghost use Rattle.itip_running.specs.Ends.{publishes_seen, seen, pass_pair, publishes_told, told, receipt_pair};
 
-    /// The text of the task list in a window, of a list of published batches that begins with all that this pass had seen;
-    /// it has seen these then.
+    /// Returns the text of the task list in a window, of a list of published batches that begins with all that this pass had seen. The
+    /// pass has then seen these batches.
     ///
-    /// Refused where more than 100,000 rows are there (31), or when out of memory (32); it has seen the batches all the
-    /// same. Refused too where the pair lets nobody in or shows less than was seen (45): then nothing more is seen.
+    /// Fails with [`PassError::TooManyRows`] (31) if there are more than 100,000 rows, and with [`PassError::NoListMemory`] (32) if an
+    /// allocation fails; the pass has seen the batches all the same. Fails with [`PassError::NoEntry`] (45) if the pair lets nobody in or
+    /// shows less than was seen; then the pass has seen nothing more.
     #[tactic(auto, using(crate::proofs::Groups::prefix_batches))]
     pub fn list(&mut self, window: Window) -> Result<Vec<u8>, PassError>
         ensures text { IfOk result (λ text. IsListText (heard (seen self.new)) window text.items) }
@@ -50,11 +51,12 @@ impl Pass {
         text
     }
 
-    /// The text of the rows in a window that show the attendee of an address, of a list of published batches as in `list`.
+    /// Returns the text of the rows in a window that show the attendee with this address, of a list of published batches as in
+    /// [`list`](Pass::list).
     ///
-    /// Refused where more than 100,000 rows there show the attendee (31), or when out of memory (32); it has seen the
-    /// batches all the same. Refused too where the pair lets nobody in or shows less than was seen (45): then nothing more
-    /// is seen.
+    /// Fails with [`PassError::TooManyRows`] (31) if more than 100,000 rows show the attendee, and with [`PassError::NoListMemory`] (32)
+    /// if an allocation fails; the pass has seen the batches all the same. Fails with [`PassError::NoEntry`] (45) if the pair lets nobody
+    /// in or shows less than was seen; then the pass has seen nothing more.
     #[tactic(auto, using(crate::proofs::Groups::prefix_batches))]
     pub fn list_for(&mut self, window: Window, address: &str) -> Result<Vec<u8>, PassError>
         ensures text { IfOk result (λ text. IsListTextFor address.now (heard (seen self.new)) window text.items) }
@@ -71,10 +73,11 @@ impl Pass {
         text
     }
 
-    /// The rows of a window, at most 100,000, of a list of published batches as in `list`.
+    /// Returns the rows of a window, at most 100,000, of a list of published batches as in [`list`](Pass::list).
     ///
-    /// Refused where more rows are there (31), or when out of memory (32); it has seen the batches all the same. Refused too
-    /// where the pair lets nobody in or shows less than was seen (45): then nothing more is seen.
+    /// Fails with [`PassError::TooManyRows`] (31) if there are more rows, and with [`PassError::NoListMemory`] (32) if an allocation
+    /// fails; the pass has seen the batches all the same. Fails with [`PassError::NoEntry`] (45) if the pair lets nobody in or shows less
+    /// than was seen; then the pass has seen nothing more.
     #[tactic(auto, using(crate::proofs::Groups::prefix_batches))]
     pub fn rows(&mut self, window: Window) -> Result<Vec<Row>, PassError>
         ensures rows { IfOk result (λ rows. AreRows (heard (seen self.new)) window rows.items) }
@@ -92,10 +95,11 @@ impl Pass {
         rows
     }
 
-    /// The rows of a window that show the attendee of an address, of a list of published batches as in `list`.
+    /// Returns the rows of a window that show the attendee with this address, of a list of published batches as in [`list`](Pass::list).
     ///
-    /// Refused where more than 100,000 rows there show the attendee (31), or when out of memory (32); it has seen the batches
-    /// all the same. Refused too where the pair lets nobody in or shows less than was seen (45): then nothing more is seen.
+    /// Fails with [`PassError::TooManyRows`] (31) if more than 100,000 rows show the attendee, and with [`PassError::NoListMemory`] (32)
+    /// if an allocation fails; the pass has seen the batches all the same. Fails with [`PassError::NoEntry`] (45) if the pair lets nobody
+    /// in or shows less than was seen; then the pass has seen nothing more.
     #[tactic(auto, using(crate::proofs::Groups::prefix_batches))]
     pub fn rows_for(&mut self, window: Window, address: &str) -> Result<Vec<Row>, PassError>
         ensures rows { IfOk result (λ rows. AreRowsWhere (Shows address.now) (heard (seen self.new)) window rows.items) }
@@ -112,11 +116,11 @@ impl Pass {
         rows
     }
 
-    /// All that is kept, each item shared with the desk, of a list of published batches as in `list`: what reports and
-    /// explanations are made of. Each kept item costs a count and its places in maps.
+    /// Returns all that is kept of a list of published batches as in [`list`](Pass::list), each item shared with the desk: what reports
+    /// and explanations are made of. Each kept item costs a reference count and its places in maps.
     ///
-    /// Refused when out of memory (40); it has seen the batches all the same. Refused too where the pair lets nobody in or
-    /// shows less than was seen (45): then nothing more is seen.
+    /// Fails with [`PassError::NoMemory`] (40) if an allocation fails; the pass has seen the batches all the same. Fails with
+    /// [`PassError::NoEntry`] (45) if the pair lets nobody in or shows less than was seen; then the pass has seen nothing more.
     #[tactic(auto, using(crate::proofs::Groups::prefix_batches))]
     pub fn kept(&mut self) -> Result<State, PassError>
         ensures kept { IfOk result (λ kept. AreKept kept (heard (seen self.new))) }
@@ -132,11 +136,11 @@ impl Pass {
         kept
     }
 
-    /// What is kept of a UID, each item shared with the desk, in no particular order, of a list of published batches as in
-    /// `list`. No other UID is looked at.
+    /// Returns what is kept of a UID, each item shared with the desk, in no particular order, of a list of published batches as in
+    /// [`list`](Pass::list). No other UID is looked at.
     ///
-    /// Refused when out of memory (40); it has seen the batches all the same. Refused too where the pair lets nobody in or
-    /// shows less than was seen (45): then nothing more is seen.
+    /// Fails with [`PassError::NoMemory`] (40) if an allocation fails; the pass has seen the batches all the same. Fails with
+    /// [`PassError::NoEntry`] (45) if the pair lets nobody in or shows less than was seen; then the pass has seen nothing more.
     #[tactic(auto, using(crate::proofs::Groups::prefix_batches))]
     pub fn items_of(&mut self, uid: &Uid) -> Result<Vec<SharedItem>, PassError>
         ensures items { IfOk result (λ items. AreKeptOf uid.now items.items (heard (seen self.new))) }
@@ -152,11 +156,11 @@ impl Pass {
         items
     }
 
-    /// The kept items of the UIDs that moved after this tick of the desk, of a list of published batches as in `list`; the
-    /// desk began at tick 0.
+    /// Returns the kept items of the UIDs that moved after this tick of the desk, of a list of published batches as in
+    /// [`list`](Pass::list). The desk began at tick 0.
     ///
-    /// Refused when out of memory (40); it has seen the batches all the same. Refused too where the pair lets nobody in or
-    /// shows less than was seen (45): then nothing more is seen.
+    /// Fails with [`PassError::NoMemory`] (40) if an allocation fails; the pass has seen the batches all the same. Fails with
+    /// [`PassError::NoEntry`] (45) if the pair lets nobody in or shows less than was seen; then the pass has seen nothing more.
     #[tactic(auto, using(crate::proofs::Groups::prefix_batches))]
     pub fn delta_since(&mut self, tick: u64) -> Result<Batch, PassError>
         ensures delta { IfOk result (λ batch. IsDeltaAfter (seen self.new) tick batch) }
@@ -172,8 +176,8 @@ impl Pass {
         delta
     }
 
-    /// Takes in what was published when the receipt was given: what is listed from now on begins with it. The receipt, of
-    /// the pass's own desk, stays as it is.
+    /// Learns what the receipt tells: what is listed from now on begins with it. The receipt is one of the pass's own desk, and is left
+    /// unchanged.
     #[tactic(auto, using(crate::proofs::Groups::prefix_batches))]
     pub fn learn(&mut self, receipt: &mut Receipt)
         requires pair { receipt_pair receipt.old ≡ pass_pair self.old }
@@ -188,7 +192,7 @@ impl Pass {
         }
     }
 
-    /// How many published batches it has seen.
+    /// The number of published batches that it has seen.
     pub fn seen(&self) -> u64
         ensures { result ≡ length (seen self.now) }
     {
@@ -198,7 +202,7 @@ impl Pass {
         }
     }
 
-    /// A receipt of what it has seen.
+    /// Returns a receipt of what it has seen.
     pub fn receipt(&self) -> Receipt
         ensures told { publishes_told result ≡ publishes_seen self.now }
         ensures pair { receipt_pair result ≡ pass_pair self.now }
@@ -211,7 +215,7 @@ impl Pass {
         }
     }
 
-    /// Whether the front begins with all that it has seen.
+    /// Whether `front` begins with all that it has seen.
     pub(crate) fn is_within(&self, front: &Front) -> bool
         requires pair { pass_pair self.now ≡ Some front.now.seen.book }
         ensures { IsTrue result → IsPrefix (publishes_seen self.now) front.now.seen.log }

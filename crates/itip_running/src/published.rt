@@ -1,4 +1,4 @@
-//! What readers take.
+//! What readers look at.
 ghost use Rattle.std.specs.Prelude.{◌≡◌, []};
 ghost use Rattle.itip_desk.specs.Desk.{IsDeskOf};
 
@@ -8,7 +8,7 @@ use itip_desk::{Batch, Desk};
 use left_right::Absorb;
 use std::alloc::{AllocError, Global};
 
-/// A desk, the batches whose desk it is, and the history that they are of.
+/// A desk, the batches that it is the desk of, and their history.
 #[derive(Drop)]
 pub(crate) struct Published {
     pub(crate) desk: Desk,
@@ -30,7 +30,7 @@ impl Published {
     }
 }
 
-/// What a seat of the pair, a keeper's or a pass's, knows: which history it is. No value of it is made.
+/// What a seat of the pair, a keeper's or a pass's, knows: which history it is. No value of this type is made.
 pub(crate) struct KnownHistory {
     /// Whether it knows any.
     pub known: bool,
@@ -42,7 +42,7 @@ pub(crate) struct KnownHistory {
     pub cells_name: u64,
 }
 
-/// What the keeper hands to both copies: a batch, or the history whose batches they have taken with all before it.
+/// What the keeper hands to both copies: a batch, or the history of all batches that were handed over before.
 #[derive(Drop)]
 pub(crate) enum Op {
     /// The desk takes a batch.

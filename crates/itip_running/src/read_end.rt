@@ -34,8 +34,8 @@ pub(crate) struct ReadEnd {
 impl ReadEnd {
     ghost use Rattle.itip_running.specs.Ends.{reader_groups, reader_seen, reader_pair, publishes_told};
 
-    /// Looks at what is published, which begins with all that was seen. Where the pair lets nobody in or shows less, the
-    /// end comes back as it was.
+    /// Looks at what is published, which begins with all that was seen. If the pair lets nobody in or shows less, returns the end
+    /// unchanged.
     fn look(self) -> Result<Look, ReadEnd>
         ensures seen { MatchResult result (λ look. IsPrefix (reader_groups self) look.front.seen.log)
             (λ end. end.front.seen ≡ self.front.seen) }
@@ -88,7 +88,7 @@ impl ReadEnd {
         }
     }
 
-    /// The text of the rows in a window that show the attendee of an address.
+    /// The text of the rows in a window that show the attendee with this address.
     pub(crate) fn list_for(
         self,
         window: Window,
@@ -108,7 +108,7 @@ impl ReadEnd {
         }
     }
 
-    /// The rows of a window, which are made once the read is over.
+    /// The rows of a window, made once the read is over.
     pub(crate) fn rows(self, window: Window) -> (ReadEnd, Result<Vec<Row>, PassError>)
         ensures rows { IfOk result.1 (λ rows. AreRows (heard (reader_seen result.0)) window rows.items) }
         ensures few { IfOk result.1 (λ rows. length rows.items ≤ row_limit) }
@@ -124,7 +124,7 @@ impl ReadEnd {
         }
     }
 
-    /// The rows of a window that show the attendee of an address, which are made once the read is over.
+    /// The rows of a window that show the attendee with this address, made once the read is over.
     pub(crate) fn rows_for(
         self,
         window: Window,
@@ -186,7 +186,7 @@ impl ReadEnd {
         }
     }
 
-    /// Takes in what was published when the receipt was given.
+    /// Learns what the receipt tells.
     pub(crate) fn learn(&mut self, receipt: &Receipt)
         requires book { receipt.now.front.seen.book ≡ reader_pair self.old }
         ensures longer { (reader_groups self.new ≡ reader_groups self.old) ⊎ (reader_groups self.new ≡ publishes_told receipt.now) }

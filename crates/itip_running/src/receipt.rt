@@ -1,11 +1,11 @@
-//! What a keeper gives for what it published.
+//! Receipts of what was published.
 ghost use Rattle.std.specs.Prelude.{◌≡◌, length};
 
 use crate::front::Front;
 
-/// What was published when it was given, for passes to learn. A pass that has learnt it lists no less.
+/// What was published when a keeper gave it, or what a pass had seen, for passes to learn. A pass that has learnt it lists no less.
 ///
-/// It has two numbers, and may be copied. What it tells stays true, wherever it lies.
+/// It holds two numbers, and may be copied. What it tells stays true, wherever it is stored.
 #[derive(Drop)]
 pub struct Receipt {
     pub(crate) front: Front,
@@ -14,7 +14,7 @@ pub struct Receipt {
 impl Receipt {
     ghost use Rattle.itip_running.specs.Ends.{publishes_told, told, receipt_pair};
 
-    /// A copy, which tells the same. It takes no memory.
+    /// Returns a copy, which tells the same. It doesn't allocate.
     pub fn again(&self) -> Receipt
         ensures told { publishes_told result ≡ publishes_told self.now }
         ensures pair { receipt_pair result ≡ receipt_pair self.now }
@@ -24,7 +24,7 @@ impl Receipt {
         }
     }
 
-    /// How many batches were published then.
+    /// The number of batches that it tells of.
     pub fn told(&self) -> u64
         ensures { result ≡ length (told self.now) }
     {

@@ -18,11 +18,11 @@ pub struct OpenDesk {
     pub passes: Vec<Pass>,
 }
 
-/// Starts a desk with so many passes, does some work with it, and takes the pair apart, whatever the work answers. In the work `?` may
-/// stand, which it may not where a keeper is owned. Gives what the work answers, and the desk of all that was published in the end.
+/// Starts a desk with `passes` passes, does some work with it, and takes the pair apart, whatever the work returns. The work may use `?`,
+/// which code that owns a keeper may not. Returns what the work returned, and the desk of all that was published in the end.
 ///
-/// Refused when out of memory (40), where the pair gives no place to a reader, and where there are not one to eight passes (41); or for
-/// what the work answers, before all else.
+/// Fails with [`LiveError::NoMemory`] (40) if an allocation fails, and with [`LiveError::NoPlace`] (41) if the pair gives no place to a
+/// reader or `passes` isn't 1 to 8. An error of the work comes before one of taking the pair apart.
 pub fn with_desk<
     R: AllocGlobal + Wait,
     T: Drop,

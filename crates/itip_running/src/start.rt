@@ -17,7 +17,7 @@ use left_right::writer::Writer;
 use std::alloc::Global;
 use std::sync::Wait;
 
-/// One pass of the pair, which knows whose history it is. Refused where the pair gives no place to a reader (41).
+/// One pass of the pair, which knows whose history it reads. Refused if the pair gives no place to a reader (41).
 fn seat(alloc: Global, writer: &mut PublishedWriter, last: &Front) -> Result<Pass, LiveError>
     requires known { view writer.old.desk.place ≡ name_of last.now.seen.book }
     ensures writer { (writer.new.desk.shown ≡ writer.old.desk.shown) × (writer.new.log ≡ writer.old.log)
@@ -39,7 +39,7 @@ fn seat(alloc: Global, writer: &mut PublishedWriter, last: &Front) -> Result<Pas
     Ok(Pass { end: Some(end) })
 }
 
-/// The passes of the pair. Refused when out of memory (40), or where the pair gives no place to a reader (41).
+/// The passes of the pair. Refused if an allocation fails (40), or if the pair gives no place to a reader (41).
 fn seats(
     alloc: Global,
     writer: &mut PublishedWriter,
@@ -63,10 +63,10 @@ fn seats(
     Ok(all)
 }
 
-/// A desk that has heard nothing, at tick 0: its keeper, and its passes, which have seen nothing. There are one to eight passes.
+/// Starts a desk that has heard nothing, at tick 0. Returns its keeper and its one to eight passes, which have seen nothing.
 ///
-/// Refused when out of memory (40), or where the pair gives no place to a reader (41). A pair that was made is taken apart
-/// before a refusal.
+/// Fails with [`LiveError::NoMemory`] (40) if an allocation fails, and with [`LiveError::NoPlace`] (41) if the pair gives no place to a
+/// reader. A pair that was made is taken apart first.
 pub fn start_desk<R: AllocGlobal + Wait>(
     rt: &R,
     passes: usize,

@@ -15,7 +15,7 @@ use std::alloc::Global;
 use std::snapshot::Snapshot;
 use std::sync::Wait;
 
-/// The writer of a pair, and what is pending. It is not `Drop`: take it apart by `close`.
+/// The writer of a pair, and what is pending. It isn't `Drop`: take it apart with `close`.
 pub(crate) struct WriteEnd {
     pub(crate) writer: PublishedWriter,
     pub(crate) head: Head,
@@ -38,8 +38,8 @@ impl WriteEnd {
     ghost use Rattle.itip_running.specs.Ends.{shown_value, writer_groups, writer_published, writer_pending, writer_calls, writer_fresh};
     ghost use Rattle.itip_running.specs.Ends.{writer_pair, publishes_told, IsShownCall, IsRefusedCall};
 
-    /// Adds a batch after those that are pending. It comes back when out of memory, or where `usize::MAX` batches are
-    /// pending, and nothing has changed then.
+    /// Adds a batch after those that are pending. If an allocation fails or `usize::MAX` batches are pending, returns the batch, and
+    /// nothing has changed.
     pub(crate) fn submit(&mut self, batch: Batch) -> Result<(), Batch>
         ensures published { self.new.writer.desk ≡ self.old.writer.desk }
         ensures pending { MatchResult result (λ _. writer_pending self.new ≡ writer_pending self.old ++ batch ∷ [])
@@ -63,7 +63,7 @@ impl WriteEnd {
         Ok(())
     }
 
-    /// How many batches there are with those that are pending, or nothing where that can't be counted.
+    /// The number of published and pending batches together, or `None` if it exceeds `u64::MAX`.
     fn total(&self) -> Option<u64>
         ensures { MatchOption result (u64.MAX < length (writer_published self.now) + length (writer_pending self.now))
             (λ total. total ≡ length (writer_published self.now) + length (writer_pending self.now)) }
@@ -72,7 +72,7 @@ impl WriteEnd {
         published.checked_add(self.pending as u64)
     }
 
-    /// Publishes what is pending, all at once, or nothing, and all of it is still pending then.
+    /// Publishes all that is pending at once. On an error nothing is published, and all of it is still pending.
     pub(crate) fn publish<R: Wait>(self, rt: &R) -> (WriteEnd, Result<Receipt, LiveError>)
         ensures ok { OnOk result.1 ((writer_published result.0 ≡ writer_published self ++ writer_pending self)
             × (writer_pending result.0 ≡ [])) }
@@ -98,7 +98,7 @@ impl WriteEnd {
         end.exchange(rt)
     }
 
-    /// Puts what is fresh behind the groups of all calls, where there are so many batches in all, and says whether it could.
+    /// Appends what is fresh to the groups of all calls, and returns whether it could. `total` is the number of batches in all.
     fn call(&mut self, total: u64) -> bool
         requires total { total ≡ length (writer_published self.old) + length (writer_pending self.old) }
         ensures calls { MatchBool result ((writer_calls self.new ≡ writer_calls self.old ++ writer_fresh self.old ∷ []) × (writer_fresh self.new ≡ []))
@@ -117,7 +117,7 @@ impl WriteEnd {
         }
     }
 
-    /// Marks the history, where nothing is fresh, and exchanges the two copies. When out of memory nothing is published.
+    /// Marks the history, when nothing is fresh, and exchanges the two copies. If an allocation fails, nothing is published.
     fn exchange<R: Wait>(self, rt: &R) -> (WriteEnd, Result<Receipt, LiveError>)
         requires none_fresh { self.fresh ≡ [] }
         ensures ok { OnOk result.1 ((writer_groups result.0 ≡ writer_calls self) × (writer_pending result.0 ≡ [])) }
@@ -176,7 +176,7 @@ impl WriteEnd {
         }
     }
 
-    /// The published value. What is still pending is dropped.
+    /// Takes the pair apart, and returns the published value. What is still pending is dropped.
     pub(crate) fn close<R: Wait>(self, rt: &R) -> Box<Published, Global>
         ensures { result.value ≡ shown_value self }
     {

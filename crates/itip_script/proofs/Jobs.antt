@@ -1,4 +1,4 @@
--- The first command of a script for an office, and those behind it.
+-- The first command of a script for an office, and those after it.
 use Rattle.std.proofs.Common.{◌≡◌, Bool, true, false, cond, ℕ, List, [], ◌∷◌, refl, sym, ap, ◌∙◌}
 use Rattle.std.specs.List.{concat}
 use Rattle.itip_script.specs.Lines.{lines_of, content_of, is_command, before_command, from_command}

@@ -35,7 +35,7 @@ after_space_at word rest plain =
     ap (λ (t : List ℕ). drop (position_or_len (λ b. eqb b 32) (word ++ 32 ∷ rest) + 1) t) (sym (append_assoc word (32 ∷ []) rest))
     ∙ drop_at (word ++ 32 ∷ []) rest (position_or_len (λ b. eqb b 32) (word ++ 32 ∷ rest) + 1) long
 
--- where there is something behind a space, the parts give the bytes back
+-- if there is something after a space, the parts give the bytes back
 parts_of : (bytes : List ℕ) → 0 < length (after_space bytes) → bytes ≡ before_space bytes ++ 32 ∷ after_space bytes
 parts_of [] some = absurd (omega arith)
 parts_of (b ∷ bytes) some =
@@ -164,14 +164,14 @@ first_number digits rest number value =
     let plain = number_no_space digits number value in
     (ap number_of (before_space_at digits rest plain) ∙ value, after_space_at digits rest plain)
 
--- a number alone behind the word
+-- a number alone after the word
 one_number : (line message : List ℕ) (v : Verb) (number : ℕ) (give : ℕ → Order) → IsPlain v → verb_of (verb_text v) ≡ Some v →
     ((rest : List ℕ) → spelled_by v rest message ≡ (number_of rest >>= λ n. Some (give n))) → SpellsNumber line (verb_text v) number →
     spelled line message ≡ Some (give number)
 one_number line message v number give plain known by s =
     at_verb line message s.digits v plain known s.whole ∙ by s.digits ∙ ap (λ (o : Option ℕ). o >>= λ n. Some (give n)) s.value
 
--- a number, and what another reader reads behind it
+-- a number, and what another reader reads after it
 number_and : {X : Type 0} (line message behind : List ℕ) (v : Verb) (number : ℕ) (x : X) (read : List ℕ → Option X) (give : ℕ → X →
     Order) → IsPlain v → verb_of (verb_text v) ≡ Some v
     → ((rest : List ℕ) → spelled_by v rest message ≡ (number_of (before_space rest) >>= λ n. read (after_space rest) >>=
@@ -252,7 +252,7 @@ whole_at : (line : List ℕ) (v : Verb) → verb_of (before_space line) ≡ Some
     after_space line
 whole_at line v known some = parts_of line some ∙ ap (λ (t : List ℕ). t ++ 32 ∷ after_space line) (verb_word (before_space line) v known)
 
--- what was given is one number, and behind it nothing
+-- what was given is one number, and nothing after it
 find_number : (line : List ℕ) (v : Verb) (order : Order) (give : ℕ → Order) → verb_of (before_space line) ≡ Some v →
     (number_of (after_space line) >>= λ n. Some (give n)) ≡ Some order → (n : ℕ) × SpellsNumber line (verb_text v) n × (give n ≡ order)
 find_number line v order give known e =

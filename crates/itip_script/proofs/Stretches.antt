@@ -8,7 +8,7 @@ use Rattle.itip_script.specs.Lines.{lines_of, content_of, is_command, is_empty, 
 use Rattle.itip_script.specs.Orders.{Order, malformed, order_at, is_take}
 use Rattle.itip_script.specs.Script.{stray, given_by, given_from, orders_of, GivesFirst}
 
--- what stands from the first command on has nothing before a command
+-- what comes from the first command on has nothing before a command
 pub before_command-from_command : (lines : List (List ℕ)) → before_command (from_command lines) ≡ []
 before_command-from_command [] = refl
 before_command-from_command (line ∷ lines) =
@@ -36,7 +36,7 @@ first_is_command (l ∷ lines) line others e =
       | false ↦ λ known same. first_is_command lines line others same
     ] refl e
 
--- the commands behind a stretch of lines
+-- the commands after a stretch of lines
 pub orders_of_after : (bytes after : List ℕ) → lines_of after ≡ from_command (lines_of bytes) →
     orders_of after ≡ given_from (lines_of bytes)
 orders_of_after bytes after e =
@@ -77,7 +77,7 @@ passed_all bytes rest blank so_far none =
       sym (and-true blank) ∙ ap (λ (t : List (List ℕ)). blank && list_all is_empty t) (sym none) ∙ so_far.blanks,
     )
 
--- the commands where a stretch before the first command is not blank, and where it is
+-- the commands if a stretch before the first command is not blank, and if it is
 pub orders_of_stray : (bytes after : List ℕ) → list_all is_empty (before_command (lines_of bytes)) ≡ false →
     lines_of after ≡ from_command (lines_of bytes) → orders_of bytes ≡ malformed ∷ orders_of after
 orders_of_stray bytes after full behind =
@@ -90,7 +90,7 @@ orders_of_blank bytes after blank behind =
     ap (λ (t : Bool). cond t [] (malformed ∷ []) ++ given_from (lines_of bytes)) blank
     ∙ sym (orders_of_after bytes after behind)
 
--- the commands where a command line comes first
+-- the commands if a command line comes first
 pub orders_of_first : (bytes here line after rest : List ℕ) (order : Order) → lines_of here ≡ from_command (lines_of bytes) →
     lines_of here ≡ line ∷ lines_of after → GivesFirst line after order rest → orders_of here ≡ order ∷ orders_of rest
 orders_of_first bytes here line after rest order behind cut gives =
@@ -118,7 +118,7 @@ gives_other line after order other said =
     stray (before_command (lines_of after))) ++ given_from (lines_of after)) other
     ∙ ap (λ (t : Order). t ∷ (stray (before_command (lines_of after)) ++ given_from (lines_of after))) (sym said)
 
--- the same behind a blank stretch
+-- the same after a blank stretch
 pub orders_of_blank_first : (bytes here line after rest : List ℕ) (order : Order) →
     list_all is_empty (before_command (lines_of bytes)) ≡ true → lines_of here ≡ from_command (lines_of bytes) → lines_of here ≡ line ∷
     lines_of after → GivesFirst line after order rest → orders_of bytes ≡ order ∷ orders_of rest

@@ -1,4 +1,4 @@
--- A line of a stream gives the wish that it spells, and the octets behind it that belong to it.
+-- A line of a stream gives the wish that it spells, and the bytes after it that belong to it.
 use Rattle.std.proofs.Common.{◌≡◌, ◌∙◌, sym, ap, refl, ℕ, ◌<◌, ◌≤◌, Bool, true, false, cond, eqb}
 use Rattle.std.proofs.Common.{nat_lt, List, [], length, take, take_all, arith}
 use Rattle.std.proofs.Common.{Option, Some, None, inl, inr}
@@ -15,7 +15,7 @@ use Rattle.itip_script.specs.declared.stream.StreamLine.{StreamLine}
 
 -- ---- the wish of a line
 
--- what is only asked of a desk is spelled as in a script
+-- what only asks something of a desk is spelled as in a script
 pub question_wish : (v : Verb) (arguments : List ℕ) → (v ≡ verb.Take → ⊥) → (v ≡ verb.Arrive → ⊥) → (v ≡ verb.Post → ⊥) →
     wish_by v arguments ≡ option_map asks (spelled_by v arguments [])
 question_wish verb.Take arguments take arrive post = absurd (take refl)
@@ -41,7 +41,7 @@ module _ (line said : List ℕ) (is : said ≡ content_of line) where
       ap (λ (o : Option Wish). unwrap_or o (malformed (following said))) spelled
       ∙ sym (ap (λ (t : Bool). cond t empty or_so) some) ∙ ap wish_said is
 
--- ---- the octets behind it
+-- ---- the bytes after it
 
 chosen : (limit count : ℕ) (octets : List ℕ) (a b : Bool) → (nat_lt (length octets) count) ≡ a → (nat_lt limit count) ≡ b →
     brought limit count octets ≡ cond a cut_off (cond b too_long (whole (take count octets)))

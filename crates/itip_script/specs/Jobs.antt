@@ -7,7 +7,7 @@ use Rattle.itip_script.specs.Orders.{before_space, after_space, number_of, ◌>>
 use Rattle.itip_script.specs.declared.job.JobCommand.{JobCommand}
 use Rattle.itip_script.specs.declared.job.JobCommand.TheVariants as command
 
--- A command without where its bytes lie.
+-- A command, apart from where its bytes are.
 pub data Errand : Type 0 where
   -- the desk takes the text
   takes : ℕ → List ℕ → Errand
@@ -22,7 +22,7 @@ errand_of (command.Carry from to) = carries from to
 errand_of (command.Look desk) = looks desk
 errand_of command.Malformed = unknown
 
--- The command that a line spells, with the bytes of the message behind it.
+-- The command that a line spells, with the bytes of the message after it.
 abbrev pub spelled_errand : List ℕ → List ℕ → Option Errand
 spelled_errand line message =
     if bytes_eq (before_space line) (codes "!take") then number_of (after_space line) >>= (λ desk. Some (takes desk message)) else
@@ -34,7 +34,7 @@ spelled_errand line message =
 abbrev pub errand_at : List ℕ → List ℕ → Errand
 errand_at line message = unwrap_or (spelled_errand line message) unknown
 
--- One for each command line, with the lines behind it up to the next.
+-- One for each command line, with the lines after it up to the next.
 abbrev pub errands_from : List (List ℕ) → List Errand
 errands_from [] = []
 errands_from (line ∷ lines) =

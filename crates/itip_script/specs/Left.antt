@@ -1,4 +1,4 @@
--- The commands that an iterator over a script has not given yet (our own form).
+-- The commands that an iterator over a script has not yielded yet (our own form).
 use Rattle.std.specs.Prelude.{List}
 use Rattle.itip_script.specs.declared.commands.Commands.{Commands}
 use Rattle.itip_script.specs.Orders.{Order}

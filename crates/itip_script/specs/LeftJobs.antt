@@ -1,4 +1,4 @@
--- The commands that an iterator over a script for an office has not given yet (our own form).
+-- The commands that an iterator over a script for an office has not yielded yet (our own form).
 use Rattle.std.specs.Prelude.{List}
 use Rattle.itip_script.specs.declared.job.JobCommands.{JobCommands}
 use Rattle.itip_script.specs.Jobs.{Errand, errands_of}

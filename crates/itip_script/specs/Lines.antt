@@ -21,7 +21,7 @@ abbrev pub content_of : List ℕ → List ℕ
 content_of line =
     if slice_index line (length line - 1) == 10 then without_return (take (length line - 1) line) else line
 
--- a line that says nothing
+-- a line without content
 abbrev pub is_empty : List ℕ → Bool
 is_empty line = length (content_of line) == 0
 
@@ -46,8 +46,8 @@ pub record IsFirstLine (bytes line after : List ℕ) : Type 0 where
   pub lines : lines_of bytes ≡ line ∷ lines_of after
   pub some : 0 < length line
 
--- What is known of the lines before the first command while they are passed: the front of the bytes that was
--- passed, with whether each line of it says nothing, and what the rest completes.
+-- What is known while the lines before the first command are passed: the bytes that were passed, whether each of their lines is
+-- empty, and that the rest completes them.
 pub record Passes (bytes rest : List ℕ) (blank : Bool) : Type 0 where
   pub front : List ℕ
   pub whole : bytes ≡ front ++ rest

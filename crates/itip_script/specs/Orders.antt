@@ -10,7 +10,7 @@ use Rattle.itip_script.specs.declared.command.Verb.TheVariants as verb
 use Rattle.itip_report.specs.declared.report_name.ReportName.{ReportName}
 use Rattle.itip_report.specs.declared.report_name.ReportName.TheVariants as name
 
--- A command without where its bytes lie.
+-- A command, apart from where its bytes are.
 pub data Order : Type 0 where
   -- the desk takes the text
   takes : ℕ → List ℕ → Order
@@ -44,14 +44,14 @@ order_of command.Malformed = malformed
 abbrev pub before_space : List ℕ → List ℕ
 before_space bytes = before_first (λ b. b == 32) bytes
 
--- the bytes behind the first space, none where there is no space
+-- the bytes after the first space, or none if there is no space
 abbrev pub after_space : List ℕ → List ℕ
 after_space bytes = after_first (λ b. b == 32) bytes
 
 abbrev pub is_digit : ℕ → Bool
 is_digit b = nat_le 48 b && nat_le b 57
 
--- the digits behind a number, read on
+-- the value of a number and the digits after it
 abbrev pub digits_value : ℕ → List ℕ → ℕ
 digits_value number [] = number
 digits_value number (b ∷ bytes) = digits_value (number * 10 + (b - 48)) bytes
@@ -60,19 +60,19 @@ digits_value number (b ∷ bytes) = digits_value (number * 10 + (b - 48)) bytes
 abbrev pub IsNoDigit : ℕ → ℕ → Type 0
 IsNoDigit number b = (is_digit b ≡ false) ⊎ (2 ^ 64 ≤ number * 10 + (b - 48))
 
--- the value with the digit behind it
+-- the value with one more digit
 pub record IsNextValue (number b next : ℕ) : Type 0 where
   pub digit : is_digit b ≡ true
   pub value : next ≡ number * 10 + (b - 48)
   pub fits : next < 2 ^ 64
 
--- One digit or more whose value is below 2 ^ 64.
+-- One or more digits whose value is below 2 ^ 64.
 abbrev pub number_of : List ℕ → Option ℕ
 number_of word =
     if nat_lt 0 (length word) && (list_all is_digit word && nat_lt (digits_value 0 word) (2 ^ 64))
     then Some (digits_value 0 word) else None
 
--- a UID or an address is any bytes but none
+-- a UID or an address is any bytes, at least one
 abbrev pub rest_of : List ℕ → Option (List ℕ)
 rest_of bytes = if length bytes == 0 then None else Some bytes
 
@@ -102,7 +102,7 @@ verb_of word =
     if bytes_eq word (codes "!next") then Some verb.Next else
     if bytes_eq word (codes "!entries") then Some verb.Entries else None
 
--- Behind the word and a space stand the arguments, with a space between two. A UID or an address is all that is left.
+-- The arguments come after the word and a space, with a space between two. A UID or an address is all that is left.
 abbrev pub spelled_by : Verb → List ℕ → List ℕ → Option Order
 spelled_by verb.Take arguments message = number_of arguments >>= λ desk. Some (takes desk message)
 spelled_by verb.List arguments message = number_of arguments >>= λ desk. Some (lists desk)
@@ -120,14 +120,14 @@ spelled_by verb.Next arguments message =
     number_of (before_space arguments) >>= λ desk. rest_of (after_space arguments) >>= λ uid. Some (asks_next desk uid)
 spelled_by verb.Entries arguments message = number_of arguments >>= λ desk. Some (counts desk)
 
--- The command that a line spells, with the bytes of the message behind it.
+-- The command that a line spells, with the bytes of the message after it.
 abbrev pub spelled : List ℕ → List ℕ → Option Order
 spelled line message = verb_of (before_space line) >>= λ verb. spelled_by verb (after_space line) message
 
--- A command that spells nothing is malformed.
+-- A command line that spells nothing is malformed.
 abbrev pub order_at : List ℕ → List ℕ → Order
 order_at line message = unwrap_or (spelled line message) malformed
 
--- The text behind a line whose first word is `!take` is its message.
+-- The text after a line whose first word is `!take` is its message.
 abbrev pub is_take : List ℕ → Bool
 is_take line = bytes_eq (before_space line) (codes "!take")

@@ -10,7 +10,7 @@ pub record SpellsNumber (line : List ℕ) (verb : List ℕ) (number : ℕ) : Typ
   pub value : number_of digits ≡ Some number
   pub whole : line ≡ verb ++ 32 ∷ digits
 
--- a word, a number and whatever stands behind the space after it
+-- a word, a number and whatever follows the space after it
 pub record SpellsBehind (line : List ℕ) (verb : List ℕ) (number : ℕ) (behind : List ℕ) : Type 0 where
   pub digits : List ℕ
   pub value : number_of digits ≡ Some number
@@ -26,7 +26,7 @@ pub record SpellsRest (line : List ℕ) (verb : List ℕ) (number : ℕ) (rest :
   pub some : 0 < length rest
   pub front : SpellsBehind line verb number rest
 
--- The line, with this message behind it, is the command. No line spells what is malformed.
+-- The line, with this message after it, is the command. No line spells a malformed one.
 abbrev pub Spells : List ℕ → List ℕ → Order → Type 0
 Spells line message (takes desk text) = SpellsNumber line (codes "!take") desk × (text ≡ message)
 Spells line message (lists desk) = SpellsNumber line (codes "!list") desk

@@ -1,4 +1,4 @@
-//! The octets behind a line of a stream.
+//! The bytes after a line of a stream.
 ghost use Rattle.std.specs.Prelude.{ℕ, ◌≢◌, ◌<◌, IfOk, IfErr};
 ghost use Rattle.itip_script.specs.Stream.{ReadsBody, body_of};
 
@@ -6,20 +6,20 @@ use itip_streams::{StreamFault, pass_octets, read_octets};
 use std::alloc::Global;
 use std::io::Read;
 
-/// The octets that belong to a line.
+/// The bytes that belong to a line.
 #[derive(Debug, Drop)]
 pub enum Body {
     /// All of them.
     Whole(Vec<u8>),
-    /// There are more than the limit; they were read past.
+    /// They are more than the limit, and were read past.
     Long,
-    /// The input ended before the last of them.
+    /// The input ended before the last of them; what was left of it has been read.
     Cut,
 }
 
-/// Reads so many octets. Of more than `limit` none are held.
+/// Reads exactly `octets` bytes. If they are more than `limit`, they are read past and not held.
 ///
-/// A failed read is [`StreamFault::Read`] at once.
+/// The first failed read is returned as [`StreamFault::Read`].
 pub fn read_body<R: Read>(
     alloc: Global,
     reader: &mut R,
@@ -38,7 +38,7 @@ pub fn read_body<R: Read>(
     }
 }
 
-/// Reads past so many octets, which are more than the limit.
+/// Reads past `octets` bytes, which are more than the limit.
 fn pass_body<R: Read>(reader: &mut R, octets: u64) -> Result<Body, StreamFault>
     ensures reads { IfOk result (λ body. (limit : ℕ) → limit < octets
         → ReadsBody limit octets (R.remaining reader.old) (R.remaining reader.new) (body_of body)) }

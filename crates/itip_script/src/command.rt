@@ -9,7 +9,7 @@ use itip_report::ReportName;
 /// A command of a script. Desks, packets and ticks are numbers as written, whether or not there is such a desk.
 #[derive(Clone, Copy, Debug)]
 pub enum Command<'a> {
-    /// `!take d` and the message behind it, byte for byte.
+    /// `!take d` and the message after it, byte for byte.
     Take { desk: u64, text: &'a [u8] },
     /// `!list d`
     List { desk: u64 },
@@ -32,7 +32,7 @@ pub enum Command<'a> {
 }
 
 impl<'a> Command<'a> {
-    /// What it is called.
+    /// Its word without the `!`, or `command` if it is malformed.
     pub fn word(&self) -> &'static str {
         match self {
             Command::Take { .. } => "take",
@@ -63,7 +63,7 @@ pub(crate) enum Verb {
     Entries,
 }
 
-/// The command that a line spells, where `line` is without its break. `message` is the text behind it.
+/// The command that a line spells, if any. `line` has no break, and `message` is the text after it.
 pub(crate) fn spelled<'a>(line: &'a [u8], message: &'a [u8]) -> Option<Command<'a>>
     ensures { option_map order_of result ≡ spelled line.now message.now }
 {
@@ -71,7 +71,7 @@ pub(crate) fn spelled<'a>(line: &'a [u8], message: &'a [u8]) -> Option<Command<'
     spelled_by(verb_of(word)?, arguments, message)
 }
 
-/// The command of a word with these arguments.
+/// The command of a word with these arguments. `None` if they are bad.
 pub(crate) fn spelled_by<'a>(
     verb: Verb,
     arguments: &'a [u8],
@@ -155,7 +155,7 @@ pub(crate) fn verb_of(word: &[u8]) -> Option<Verb>
     }
 }
 
-/// The report of this name: `load`, `progress`, `cancelled`, `orphans` or `refresh`; `None` for every other word.
+/// The report of this name: `load`, `progress`, `cancelled`, `orphans` or `refresh`. `None` for any other word.
 pub fn read_report_name(word: &[u8]) -> Option<ReportName>
     ensures { result ≡ report_of word.now }
 {
@@ -174,7 +174,7 @@ pub fn read_report_name(word: &[u8]) -> Option<ReportName>
     }
 }
 
-/// What a line ends with, where it is there at all.
+/// The rest of a line. `None` if it is empty.
 pub(crate) fn rest_of(bytes: &[u8]) -> Option<&[u8]>
     ensures { option_map (λ rest. rest.now) result ≡ rest_of bytes.now }
 {

@@ -10,7 +10,7 @@ use crate::word::{is_word, split_word};
 /// The commands of a script that are left.
 #[derive(Drop)]
 pub struct Commands<'a> {
-    // What was not cut yet, which begins with a line.
+    // What is not cut yet, from the beginning of a line.
     rest: &'a [u8],
 }
 

@@ -1,16 +1,17 @@
-//! Reading a script whole.
+//! Reads a whole script.
 ghost use Rattle.std.specs.Prelude.{◌≡◌, ◌<◌, ◌≤◌, ◌≢◌, length, vec_len, IfOk, IfErr, IfSome, IfNone};
 
 use itip_streams::{StreamFault, read_within};
 use std::alloc::Global;
 use std::io::Read;
 
-/// The most octets of a script.
+/// The most bytes of a script.
 pub const MAX_OCTETS: usize = 16_777_216;
 
-/// Reads all octets of a script. `None` says that there are more than [`MAX_OCTETS`]; the rest is then not read.
+/// Reads a whole script. Returns `None` if it has more than [`MAX_OCTETS`] bytes; the rest is then not read.
 ///
-/// A failed read is [`StreamFault::Read`] at once, and so is one read more than [`MAX_READS`](itip_streams::MAX_READS).
+/// The first failed read is returned as [`StreamFault::Read`], and so is a script for which
+/// [`MAX_READS`](itip_streams::MAX_READS) reads are not enough.
 pub fn read_script<R: Read>(alloc: Global, reader: &mut R) -> Result<Option<Vec<u8>>, StreamFault>
     ensures whole { IfOk result (λ found. IfSome found (λ script.
         (vec_len script ≤ 16777216) × IfSome (R.remaining reader.old) (λ input. script.items ≡ input))) }

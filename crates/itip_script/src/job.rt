@@ -9,7 +9,7 @@ use crate::word::{is_word, read_number, split_word};
 /// A command of a script that an office runs. Desks are numbers as written, whether or not there is such a desk.
 #[derive(Clone, Copy, Debug)]
 pub enum JobCommand<'a> {
-    /// `!take d` and the message behind it, byte for byte.
+    /// `!take d` and the message after it, byte for byte.
     Take { desk: u64, text: &'a [u8] },
     /// `!carry a b`: all that desk `a` keeps comes to desk `b`.
     Carry { from: u64, to: u64 },
@@ -30,8 +30,8 @@ impl<'a> JobCommands<'a> {
     ghost use Rattle.itip_script.specs.Jobs.{errands_of};
     ghost use Rattle.itip_script.specs.LeftJobs.{errands_left};
 
-    /// The commands of a script for an office, in order: one for each line that begins with `!`. Lines that belong to no `!take` are
-    /// passed over. Texts are slices of the script.
+    /// The commands of a script for an office, in order: one for each line that begins with `!`. Other lines that belong to no `!take`
+    /// are skipped. Texts are slices of the script.
     pub fn new(script: &'a [u8]) -> Self
         ensures { errands_left result ≡ errands_of script.now }
     {

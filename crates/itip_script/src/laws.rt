@@ -1,11 +1,11 @@
-//! Laws of the format, as functions that do nothing.
+//! The laws of the format. They need no code: each function is empty.
 ghost use Rattle.std.specs.Prelude.{◌≡◌, ℕ, List, Some};
 ghost use Rattle.itip_script.specs.Lines.{lines_of};
 ghost use Rattle.itip_script.specs.Cutting.{IsCutting};
 ghost use Rattle.itip_script.specs.Orders.{Order, spelled};
 ghost use Rattle.itip_script.specs.Spelling.{Spells};
 
-/// A script has one cutting into physical lines.
+/// A script has exactly one cutting into physical lines.
 pub fn one_cutting()
     ensures cut { (bytes : List ℕ) → IsCutting bytes (lines_of bytes) }
     ensures only { (bytes : List ℕ) (lines : List (List ℕ)) → IsCutting bytes lines → lines ≡ lines_of bytes }

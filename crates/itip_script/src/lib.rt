@@ -1,7 +1,7 @@
-//! Scripts: reading one whole, and cutting it into commands or jobs. Streams: reading a command at a time.
+//! Scripts, which are read whole and cut into commands or jobs; and streams, which are read a command at a time.
 //!
-//! A script is a run of physical lines. A line that begins with `!` is a command; the lines after a `!take` are the message that it
-//! takes, byte for byte; other lines than empty ones are out of place. The format is our own.
+//! A script is a run of physical lines. A line that begins with `!` is a command; the lines after a `!take`, up to the next command, are
+//! the message that it takes, byte for byte; any other line that isn't empty is out of place. The format is our own.
 #![tactic(auto)]
 
 mod body;

@@ -6,7 +6,7 @@ ghost use Rattle.itip_script.specs.Lines.{before_command, from_command};
 
 const LF: u8 = b'\n';
 
-/// The first line, with its break, and what follows it.
+/// The first line, with its break, and what follows it. `None` if there are no bytes.
 pub(crate) fn first_line(bytes: &[u8]) -> Option<(&[u8], &[u8])>
     ensures { MatchOption result (bytes.now ≡ []) (λ cut. IsFirstLine bytes.now cut.0.now cut.1.now) }
 {
@@ -54,7 +54,7 @@ fn is_command(line: &[u8]) -> bool
 #[derive(Clone, Copy)]
 pub(crate) struct Stretch<'a> {
     pub(crate) text: &'a [u8],
-    /// Whether each line says nothing.
+    /// Whether each line is empty.
     pub(crate) is_blank: bool,
     pub(crate) after: &'a [u8],
 }

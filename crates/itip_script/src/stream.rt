@@ -1,4 +1,4 @@
-//! What a line of a stream asks for: commands of which each is answered before the next is read.
+//! What a line of a stream asks for. Each command of a stream is answered before the next is read.
 ghost use Rattle.std.specs.Prelude.{◌≡◌};
 ghost use Rattle.std.specs.Option.{option_map};
 ghost use Rattle.itip_script.specs.Orders.{order_of};
@@ -8,31 +8,31 @@ use crate::command::{Command, Verb, rest_of, spelled_by, verb_of};
 use crate::line::content;
 use crate::word::{is_word, read_number, split_word};
 
-/// The most octets of a line, its break among them.
+/// The most bytes of a line, its break included.
 pub const LINE_OCTETS: usize = 65_536;
 
-/// The most octets of a message that is taken.
+/// The most bytes of a message that is taken.
 pub const MESSAGE_OCTETS: usize = 1_048_576;
 
-/// The most octets of a delta that arrives.
+/// The most bytes of a delta that arrives.
 pub const DELTA_OCTETS: usize = 67_108_864;
 
 /// What a line of a stream asks for. Desks and ticks are numbers as written, whether or not there is such a desk.
 #[derive(Clone, Copy, Debug)]
 pub enum StreamLine<'a> {
-    /// `!take d n`: the desk takes the message that the `n` octets behind the line are.
+    /// `!take d n`: the desk takes the message in the `n` bytes after the line.
     Take { desk: u64, octets: u64 },
-    /// `!arrive d n`: the delta that the `n` octets behind the line are reaches the desk.
+    /// `!arrive d n`: the delta in the `n` bytes after the line reaches the desk.
     Arrive { desk: u64, octets: u64 },
     /// `!post d t`: what changed at the desk after tick `t`.
     Post { desk: u64, since: u64 },
     /// `!save d file`: the desk is written to a file, whose name is the rest of the line.
     Save { desk: u64, file: &'a [u8] },
-    /// What is asked of a desk in a script too, and leaves it as it is.
+    /// A command that scripts have too, and that leaves the desk as it is.
     Question(Command<'a>),
-    /// Any other line, to which so many of the octets behind it belong.
+    /// Any other line. The `octets` bytes after it belong to it.
     Malformed { octets: u64 },
-    /// A line that says nothing.
+    /// An empty line.
     Empty,
 }
 
@@ -53,7 +53,7 @@ impl<'a> StreamLine<'a> {
         }
     }
 
-    /// What it is called.
+    /// Its word without the `!`, or `command` if it is malformed or empty.
     pub fn word(&self) -> &'static str {
         match self {
             StreamLine::Take { .. } => "take",
@@ -109,7 +109,7 @@ fn question(asked: Option<Command<'_>>) -> Option<StreamLine<'_>>
     Some(StreamLine::Question(asked?))
 }
 
-/// How many octets behind a line belong to it that spells no command: those that a `!take` or an `!arrive` names.
+/// How many bytes after a line that spells no command belong to it: as many as a `!take` or an `!arrive` names, else 0.
 fn following(said: &[u8]) -> u64
     ensures { result ≡ following said.now }
 {

@@ -3,7 +3,7 @@ ghost use Rattle.std.specs.Prelude.{◌≡◌, MatchOption};
 ghost use Rattle.std.specs.Str.{bytes_eq};
 ghost use Rattle.itip_script.specs.Orders.{before_space, after_space, number_of, IsNoDigit, IsNextValue};
 
-/// The bytes before the first space, or all of them, and those behind it, or none.
+/// The bytes before the first space, or all of them, and those after it, or none.
 pub(crate) fn split_word(bytes: &[u8]) -> (&[u8], &[u8])
     ensures before { result.0.now ≡ before_space bytes.now }
     ensures after { result.1.now ≡ after_space bytes.now }
@@ -20,7 +20,7 @@ pub(crate) fn is_word(word: &[u8], name: &[u8]) -> bool
     word == name
 }
 
-/// The value of one decimal digit or more, where it is below 2^64. Neither sign nor space is read.
+/// The value of one or more decimal digits, without sign or space. `None` for any other text, and from 2^64 on.
 pub fn read_number(word: &[u8]) -> Option<u64>
     ensures { result ≡ number_of word.now }
 {

@@ -44,7 +44,7 @@ told_later i j =
       | Greater ↦ λ e. inl e
     ] refl
 
--- what is not later than something not later than a third is not later than the third
+-- if i is not later than j, and j not later than k, i is not later than k
 pub not_later_transitive : (i j k : Item) → (¬ IsLater i j) → (¬ IsLater j k) → ¬ IsLater i k
 not_later_transitive i j k a b later =
     elim (revision_cmp j k) as (λ o. revision_cmp j k ≡ o → ⊥) [

@@ -1,4 +1,4 @@
--- What is held of a UID tells no more than what another holds of it exactly where hearing it adds nothing.
+-- What is held of a UID tells no more than what another state holds of it exactly if hearing it adds nothing.
 use Rattle.std.proofs.Common.{◌≡◌, ℕ, List, ◌++◌, ◌<◌, ◌≤◌, refl, sym, ◌∙◌, ap, subst, ◌⊎◌, inl, inr, true, false, arith, Option, Some}
 use Rattle.std.proofs.Common.{None, nat_lt}
 use Rattle.std.specs.List.{Contains}
@@ -28,7 +28,7 @@ use Rattle.itip_state.proofs.Tests.{series_key, can, killed, kill}
 use Rattle.itip_state.proofs.UidStates.{held_as, series_held, entry_held, entry_key, known_key, about, series_is, entry_is, one_of_key}
 use Rattle.itip_state.proofs.UidStates.{not_killed, is_state, killed_is_dead}
 
--- where no item can be dead, none is killed
+-- if no item can be dead, none is killed
 abbrev pub IsToldBy : UidState → Item → Type 0
 IsToldBy b j = ((w : Item) × Contains (uid_state_items b) w × (w.key ≡ j.key) × IsUpTo revision_cmp j w) ⊎ (kills b.series j.key j ≡ true)
 
@@ -55,7 +55,7 @@ module _ (uid : List ℕ) (a b : UidState) (sound_a : IsSound uid a) (sound_b : 
   by_entry j (Some w) e (inl d) = inr d
   by_entry j (Some w) e (inr l) = inl (w.value, entry_held uid b sound_b j.key w e, (entry_key uid b sound_b j.key w e).in_place, l)
 
-  -- what the one tells the other tells too, or it is dead there
+  -- what one tells, the other tells too, or it is dead there
   pub told : IsUidStateBelow a b → (j : Item) → Contains x j → IsToldBy b j
   told le j h = elim (held_as uid a sound_a j h) [
     | inl first ↦ by_series j (known_key uid a sound_a j first.0) b.series refl

@@ -48,7 +48,7 @@ due_total = then_total (on_total (λ (p : ℕ × Key). p.0) nat_cmp_total) (on_t
 pub due_exact : CmpEqualImpliesEq due_cmp
 due_exact = exact_pairs nat_cmp slot_cmp exact_unsigned slot_exact
 
--- what does not stand behind another has no greater sequence
+-- what does not come after another has no greater sequence
 pub pair_low : (a b : ℕ × Key) → is_gt (due_cmp a b) ≡ false → a.0 ≤ b.0
 pair_low a b up = by (nat_cmp a.0 b.0) refl
   where
@@ -99,8 +99,8 @@ due_popped s n p es popped due key best at can =
       | inr there ↦ inr (record { sequence = d.sequence; not_above = d.not_above; there = there })
     ]
 
--- ---- all entries are put in
--- those that are not passed yet may lack
+-- ---- all entries are added
+-- those that are not passed yet may be missing
 abbrev pub AreDueOrLeft : DueSet → List (Key × Best) → List (Key × Best) → Type 0
 AreDueOrLeft due es rest = (key : Key) (best : Best) → value_at slot_cmp es key ≡ Some best → can_die key ≡ true →
     IsDue due key best ⊎ (value_at slot_cmp rest key ≡ Some best)
@@ -135,7 +135,7 @@ all_put due es rest none or key best at can = elim (or key best at can) [
   | inr left ↦ absurd (none_some best (sym (ap (λ (xs : List (Key × Best)). value_at slot_cmp xs key) none) ∙ left))
 ]
 
--- ---- what stands at a key stays, or is dead and goes
+-- ---- what is at a key stays, or is dead and goes
 pub left_more : (s : Lift Best) (q : Key) (a b c : Option Best) → IsLeft s q a b → IsLeft s q b c → IsLeft s q a c
 left_more s q a b c (inl same) r = subst (λ (o : Option Best). IsLeft s q o c) same r
 left_more s q a b c (inr gone) (inl same) = inr (same ∙ gone.0, gone.1)
@@ -363,7 +363,7 @@ adds_each sequence es old new s is = record {
       (Contains-append_right old (items_under sequence es) best.value (under_all sequence es key best at under));
 }
 
--- going through the set: what is not shared yet stands in the rest of it
+-- going through the set: what is not shared yet is in the rest of it
 pub record AddsSoFar (sequence : ℕ) (es : List (Key × Best)) (old new : List Item) (rest : List (ℕ × Key)) : Type 0 where
   pub keeps : (item : Item) → Contains old item → Contains new item
   pub among : (item : Item) → Contains new item → Contains old item ⊎ ((key : Key) × (best : Best) ×
@@ -395,7 +395,7 @@ module _ (sequence : ℕ) (es : List (Key × Best)) (old now : List Item) (p : �
   pair_key : (key : Key) (s : ℕ) → p ≡ (s, key) → p.1 ≡ key
   pair_key key s e = ap (λ (q : ℕ × Key). q.1) e
 
-  -- nothing stands at the key
+  -- nothing is at the key
   pub adds_none : value_at slot_cmp es p.1 ≡ None → AddsSoFar sequence es old now rest
   adds_none none = record {
     keeps = so.keeps;
@@ -451,7 +451,7 @@ module _ (sequence : ℕ) (es : List (Key × Best)) (old now : List Item) (p : �
         | inr later ↦ less_in xs q a.1 later
       ]
 
-  -- no sequence of the rest is below
+  -- no sequence in the rest is below
   pub adds_all_below : sequence ≤ p.0 → AddsUnder sequence es old now
   adds_all_below high = record {
     keeps = so.keeps;

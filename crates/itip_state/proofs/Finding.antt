@@ -1,6 +1,6 @@
--- A binary search by key among items in the order of their keys.
+-- A binary search by key among the items of one UID in the order of their keys.
 use Rattle.std.proofs.Common.{◌≡◌, ◌<◌, ◌≤◌, ℕ, List, [], ◌∷◌, map, length, get_or, refl, sym, ◌∙◌, ap, subst, inl, inr, arith}
-use Rattle.std.specs.List.{Contains}
+use Rattle.std.specs.List.{Contains, AllPairs}
 use Rattle.std.specs.List.Sorted.{IsNonDecreasingBy, IsPartitionPoint}
 use Rattle.std.specs.Ordering.{nat_cmp, ordering_index, ordering_then}
 use Rattle.std.specs.Option.{option_cmp}
@@ -10,29 +10,42 @@ use Rattle.std.specs.declared.cmp.Ordering.{Ordering}
 use Rattle.std.specs.declared.cmp.Ordering.TheVariants.{Less, Equal, Greater}
 use Rattle.std.proofs.lemmas.Bool.{cases_lt}
 use Rattle.std.proofs.lemmas.List.{length-map}
+use Rattle.std.proofs.lemmas.List.Elements.{Contains-get_or}
 use Rattle.std.proofs.Math.ListN.{get_or-map}
 use Rattle.itip_moment.specs.Order.{moment_cmp}
 use Rattle.itip_items.specs.KeyParts.{uid_of, rank_of, instance_of, attendee_of}
 use Rattle.itip_items.specs.declared.item.Item.{Item}
 use Rattle.itip_items.specs.declared.key.Key.{Key}
 use Rattle.itip_state.specs.declared.parts.KeyParts.{KeyParts}
-use Rattle.itip_state.specs.Kept.{AscendKeys}
+use Rattle.itip_state.specs.Kept.{AreOf, AscendKeys}
 use Rattle.itip_state.specs.Parts.{HasParts, parts_cmp}
-use Rattle.itip_state.specs.Slots.{key_cmp, key_total, key_exact}
+use Rattle.itip_state.specs.Slots.{slot_cmp, slot_total, slot_exact}
 use Rattle.itip_state.proofs.Members.{none_in, cons_cases, cons_first, cons_later}
+use Rattle.itip_state.proofs.Ordered.{slot_is_key}
 
--- a key beside the parts of another is a key beside the other
-pub as_key : (a key : Key) (parts : KeyParts) → HasParts key parts → parts_cmp a parts ≡ key_cmp a key
+-- comparing a key with the parts of another is comparing it with the other
+pub as_key : (a key : Key) (parts : KeyParts) → HasParts key parts → parts_cmp a parts ≡ slot_cmp a key
 as_key a key parts has = λ i.
-    ordering_then (slice_cmp nat_cmp (uid_of a) (sym has.uid i))
-    (ordering_then (nat_cmp (rank_of a) (sym has.rank i))
-    (ordering_then (option_cmp moment_cmp (instance_of a) (sym has.instance i)) (slice_cmp nat_cmp (attendee_of a) (sym has.attendee i))))
+    ordering_then (ordering_then (nat_cmp (rank_of a) (sym has.rank i))
+    (ordering_then (slice_cmp nat_cmp (attendee_of a) (sym has.attendee i)) (option_cmp moment_cmp (instance_of a) (sym has.instance i))))
+    (slice_cmp nat_cmp (uid_of a) (sym has.uid i))
 
-rises : (a b k : Key) → key_cmp a b ≡ Less → ordering_index (key_cmp a k) ≤ ordering_index (key_cmp b k)
-rises a b k below = elim (key_cmp b k) as (λ o. key_cmp b k ≡ o → ordering_index (key_cmp a k) ≤ ordering_index o) [
-  | Less ↦ λ e. subst (λ o. ordering_index o ≤ 0) (sym (key_total.trans a b k below e)) (omega arith)
-  | Equal ↦ λ e. subst (λ o. ordering_index o ≤ 1) (sym (ap (key_cmp a) (sym (key_exact b k e)) ∙ below)) (omega arith)
-  | Greater ↦ λ e. top (key_cmp a k)
+-- each item's slot is before those of the later ones
+abbrev pub AscendSlots : List Item → Type 0
+AscendSlots = AllPairs (λ (a b : Item). slot_cmp a.key b.key ≡ Less)
+
+-- items of one UID in the order of their keys are in the order of their slots
+pub slots_ascend : (uid : List ℕ) (items : List Item) → AreOf uid items → AscendKeys items → AscendSlots items
+slots_ascend uid items about ascend = λ i j d below inside.
+    slot_is_key (get_or items i d).key (get_or items j d).key
+    (about (get_or items i d) (Contains-get_or items i d (omega (arith, below, inside))) ∙
+    sym (about (get_or items j d) (Contains-get_or items j d inside))) ∙ ascend i j d below inside
+
+rises : (a b k : Key) → slot_cmp a b ≡ Less → ordering_index (slot_cmp a k) ≤ ordering_index (slot_cmp b k)
+rises a b k below = elim (slot_cmp b k) as (λ o. slot_cmp b k ≡ o → ordering_index (slot_cmp a k) ≤ ordering_index o) [
+  | Less ↦ λ e. subst (λ o. ordering_index o ≤ 0) (sym (slot_total.trans a b k below e)) (omega arith)
+  | Equal ↦ λ e. subst (λ o. ordering_index o ≤ 1) (sym (ap (slot_cmp a) (sym (slot_exact b k e)) ∙ below)) (omega arith)
+  | Greater ↦ λ e. top (slot_cmp a k)
 ] refl
   where
     top : (o : Ordering) → ordering_index o ≤ 2
@@ -41,14 +54,14 @@ rises a b k below = elim (key_cmp b k) as (λ o. key_cmp b k ≡ o → ordering_
     top Greater = omega arith
 
 module _ {X : Type 0} (item : X → Item) where
-  keys_rise : (xs : List X) (k : Key) → AscendKeys (map item xs) → IsNonDecreasingBy (λ x. ordering_index (key_cmp (item x).key k)) xs
+  keys_rise : (xs : List X) (k : Key) → AscendSlots (map item xs) → IsNonDecreasingBy (λ x. ordering_index (slot_cmp (item x).key k)) xs
   keys_rise xs k ascend i j d up inside = elim (cases_lt i j) [
     | inl lt ↦ rises (item (get_or xs i d)).key (item (get_or xs j d)).key k
-        (subst (λ (a : Item). key_cmp a.key (item (get_or xs j d)).key ≡ Less) (get_or-map item xs i d)
-        (subst (λ (b : Item). key_cmp (get_or (map item xs) i (item d)).key b.key ≡ Less) (get_or-map item xs j d)
+        (subst (λ (a : Item). slot_cmp a.key (item (get_or xs j d)).key ≡ Less) (get_or-map item xs i d)
+        (subst (λ (b : Item). slot_cmp (get_or (map item xs) i (item d)).key b.key ≡ Less) (get_or-map item xs j d)
         (ascend i j (item d) lt (rw (length-map xs item) inside))))
     | inr ge ↦ let same : i ≡ j = omega arith in
-        subst (λ (n : ℕ). ordering_index (key_cmp (item (get_or xs i d)).key k) ≤ ordering_index (key_cmp (item (get_or xs n d)).key k))
+        subst (λ (n : ℕ). ordering_index (slot_cmp (item (get_or xs i d)).key k) ≤ ordering_index (slot_cmp (item (get_or xs n d)).key k))
         same (omega arith)
   ]
 
@@ -63,25 +76,25 @@ module _ {X : Type 0} (item : X → Item) where
   ]
 
   not_there : (xs : List X) (k : Key) (place : ℕ) →
-      IsPartitionPoint (λ x. key_cmp (item x).key k ≡ Less) (λ x. key_cmp (item x).key k ≡ Greater) xs place → (i : Item) →
+      IsPartitionPoint (λ x. slot_cmp (item x).key k ≡ Less) (λ x. slot_cmp (item x).key k ≡ Greater) xs place → (i : Item) →
       Contains (map item xs) i → i.key ≡ k → ⊥
   not_there xs k place parts i h about =
       let found = from_mapped xs i h in
       let at : ℕ = found.1.0 in
-      let equal : key_cmp (item (get_or xs at found.0)).key k ≡ Equal =
-      ap (λ (x : X). key_cmp (item x).key k) found.1.2 ∙ ap (λ (y : Item). key_cmp y.key k) found.2 ∙ ap (λ (q : Key). key_cmp q k) about ∙
-      tied_itself key_total k in
+      let equal : slot_cmp (item (get_or xs at found.0)).key k ≡ Equal =
+      ap (λ (x : X). slot_cmp (item x).key k) found.1.2 ∙ ap (λ (y : Item). slot_cmp y.key k) found.2 ∙ ap (λ (q : Key). slot_cmp q k) about ∙
+      tied_itself slot_total k in
       elim (cases_lt at place) [
         | inl lt ↦ let x : Less ≡ Equal = sym (parts.0 at found.0 (omega arith) lt) ∙ equal in cc
         | inr ge ↦ let x : Greater ≡ Equal = sym (parts.1 at found.0 ge found.1.1) ∙ equal in cc
       ]
 
 module _ {X : Type 0} (item : X → Item) (key : Key) (parts : KeyParts) (has : HasParts key parts) where
-  -- the order beside the parts is the order beside the key
-  same_order : ◌≡◌ {A = X → Ordering} (λ x. key_cmp (item x).key key) (λ x. parts_cmp (item x).key parts)
+  -- the order by the parts is the order by the key
+  same_order : ◌≡◌ {A = X → Ordering} (λ x. slot_cmp (item x).key key) (λ x. parts_cmp (item x).key parts)
   same_order = λ i x. sym (as_key (item x).key key parts has) i
 
-  pub parts_rise : (xs : List X) → AscendKeys (map item xs) → IsNonDecreasingBy (λ x. ordering_index (parts_cmp (item x).key parts)) xs
+  pub parts_rise : (xs : List X) → AscendSlots (map item xs) → IsNonDecreasingBy (λ x. ordering_index (parts_cmp (item x).key parts)) xs
   parts_rise xs ascend =
       subst (λ (f : X → Ordering). IsNonDecreasingBy (λ x. ordering_index (f x)) xs) same_order (keys_rise item xs key ascend)
 

@@ -59,7 +59,7 @@ module _ (uid : List ℕ) (sh : UidState) (sound : IsSound uid sh) where
         | inr rest ↦ absurd (none_in i rest)
       ]
 
-  -- an item that is held stands at its key
+  -- an item that is held is at its key
   pub held_at_key : (i : Item) (key : Key) → key ≡ i.key → Contains (uid_state_items sh) i → Contains (items_at_key sh key) i
   held_at_key i key is h = subst (λ (k : Key). Contains (items_at_key sh k) i) (sym is) (elim (held_as uid sh sound i h) [
     | inl first ↦
@@ -70,7 +70,7 @@ module _ (uid : List ℕ) (sh : UidState) (sound : IsSound uid sh) where
         (subst (λ (o : Option Best). Contains (found_items o) i) (sym other.0) (cons_first i []))
   ])
 
-  -- an item is held exactly as what is held at its key
+  -- an item is held exactly if it is what is held at its key
   pub held_iff : (i : Item) → uid_of i.key ≡ uid → IsHeldAs sh i ↔ Contains (uid_state_items sh) i
   held_iff i of_uid = (
     λ h. elim h [ inl first ↦ series_held uid sh sound i first.0 | inr other ↦ entry_held uid sh sound i.key (best i) other.0 ],
@@ -90,7 +90,7 @@ not_both (Refresh uid id attendee) c = refl
 
 -- ---- a map by UID
 module _ (es : List (List ℕ × UidState)) (held : AreHeld es) where
-  -- an item that is of the set, is below a sequence, and can die, is added
+  -- an item of the set that is below a sequence and can die is added
   module _ (uid : List ℕ) (sequence : ℕ) (old new : List Item) (adds : AddsUnderAt sequence (at es uid) old new) where
     pub adds_keeps : (i : Item) → Contains old i → Contains new i
     adds_keeps i h = by (at es uid) adds
@@ -123,7 +123,7 @@ module _ (es : List (List ℕ × UidState)) (held : AreHeld es) where
                   (and_true (can_die i.key) (nat_lt i.eff sequence) (can_key i.key can) (from_less i.eff sequence less))
             ]
 
-  -- what is held at the key of an item, or that nothing is held of its UID
+  -- what is held at the key of an item, or nothing if nothing is held of its UID
   module _ (item : Item) where
     pub none_at_key : at es (uid_of item.key) ≡ None → (i : Item) → Contains (items_of es) i → item.key ≡ i.key → ⊥
     none_at_key e i h same = none_in i ((held_no_part es held (uid_of item.key) e i).1 (h, ap uid_of (sym same)))
@@ -164,7 +164,7 @@ noted_before old item n there high = record {
   reached = λ series. record { most = n; there = there; no_less = high };
 }
 
--- n is put at the UID of the item, and is no less than its sequence and than what stood there
+-- n is put at the UID of the item, and is no less than the item's sequence and what was there
 module _ (old new : Sequences) (item : Item) (key : List ℕ) (n : ℕ) (key_is : key ≡ uid_of item.key) (high : item.eff ≤ n)
     (no_less : (m : ℕ) → value_at uid_cmp old (uid_of item.key) ≡ Some m → m ≤ n)
     (put : (q : List ℕ) → value_at uid_cmp new q ≡ cond (is_eq (uid_cmp key q)) (Some n) (value_at uid_cmp old q)) where
@@ -189,7 +189,7 @@ module _ (old new : Sequences) (item : Item) (key : List ℕ) (n : ℕ) (key_is 
   noted_with = record { still = still; reached = λ series. record { most = n; there = own; no_less = high } }
 
 -- ---- the news are gone through, and then the sequences
--- what was shared so far for these news, beside the greatest sequences of their series items
+-- what was shared so far for these news, along with the greatest sequences of their series items
 pub record GivenFor (set news giving : List Item) (greatest : Sequences) : Type 0 where
   pub among : (item : Item) → Contains giving item → Contains set item
   pub at_key : (item other : Item) → Contains set item → Contains news other → other.key ≡ item.key → Contains giving item
@@ -257,7 +257,7 @@ module _ (es : List (List ℕ × UidState)) (held : AreHeld es) (news giving : L
       sorted = sorted;
     }
 
--- of the UIDs whose sequences were gone through all that is below them was shared
+-- for the UIDs whose sequences were gone through, all that is below these was shared
 pub record GivenBelow (set news giving : List Item) (greatest rest : Sequences) : Type 0 where
   pub among : (item : Item) → Contains giving item → Contains set item
   pub at_key : (item other : Item) → Contains set item → Contains news other → other.key ≡ item.key → Contains giving item

@@ -18,7 +18,7 @@ use Rattle.itip_state.proofs.Keeping.{are_kept_by, kept_beside}
 use Rattle.itip_state.proofs.Tests.{series_key}
 use Rattle.itip_state.proofs.Maps.{uid_cmp, joined_held}
 
--- one item alone is placed and whole, and is the only one
+-- one item alone is in place and reduced, and is the only one
 alone_sound : (item : Item) → IsSound (uid_of item.key) (alone item) × (0 < length (uid_state_items (alone item)))
 unfolding IsStrictlySortedBy
 alone_sound item =
@@ -87,7 +87,7 @@ module _ (item : Item) (xs zs : List (List ℕ × UidState)) (ordered : AreOrder
             (subst (λ (is : List Item). AreKept (items_of zs) (items_of xs ++ is)) mine all.kept);
       }
 
--- of nothing heard nothing is held
+-- if nothing was heard, nothing is held
 pub hold_nothing : HoldKept [] []
 unfolding IsStrictlySortedBy
 hold_nothing = record { held = record { ordered = tt; sound = tt }; kept = λ i. (λ h. absurd (none_in i h), λ kept. kept.best.is_heard) }

@@ -1,4 +1,4 @@
--- The join of what is held of one UID holds nothing but what the two hold.
+-- The join of two states of one UID holds nothing but what the two hold.
 use Rattle.std.proofs.Common.{◌≡◌, ℕ, List, [], ◌∷◌, refl, sym, ◌∙◌, ap, subst, ◌⊎◌, inl, inr, Bool, true, false, Option, Some, None}
 use Rattle.std.specs.Prelude.{cond, not}
 use Rattle.std.specs.List.{Contains, AllByRecursion}
@@ -65,7 +65,7 @@ alive_some dead (Some c) b e =
       | false ↦ λ f. f
     ] e
 
--- ---- a bound that holds nothing but what is told again
+-- ---- a bound that holds nothing but what the two hold
 module _ (a b c bound : UidState) (whole_c : IsReduced c) (above_a : IsUidStateBelow a c) (above_b : IsUidStateBelow b c)
     (le : IsUidStateBelow c bound) (of_two : HoldsOfTwo a b bound) where
   up : IsLiftedBelow IsNoLater bound.series c.series
@@ -171,7 +171,7 @@ module _ (a b : UidState) (whole_a : IsReduced a) (whole_b : IsReduced b) (g : L
   of_two c whole_c above_a above_b least =
       of_bound a b c bound whole_c above_a above_b (least bound bound_whole bound_first bound_second) bound_of_two
 
--- ---- what holds nothing but what two hold is placed, and has their items alone
+-- ---- what holds nothing but what two hold is in place, and has only their items
 module _ (uid : List ℕ) (a b c : UidState) (is : HoldsOfTwo a b c) (whole_c : IsReduced c) where
   pub placed_of_two : IsPlaced uid a → IsPlaced uid b → IsPlaced uid c
   placed_of_two p q = record {
@@ -202,7 +202,7 @@ uid_state_below_itself sh = (IsLiftedBelow-refl IsNoLater no_later_itself sh.ser
     at q None = tt
     at q (Some v) = inr (no_later_itself v)
 
--- each below the other, the two are one
+-- two states below each other are equal
 pub same_uid_state : (a b : UidState) → IsReduced a → IsReduced b → IsUidStateBelow a b → IsUidStateBelow b a → a ≡ b
 same_uid_state a b whole_a whole_b up down =
     let s : a.series ≡ b.series = IsLiftedBelow-antisym IsNoLater no_later_same a.series b.series up.0 down.0 in

@@ -32,7 +32,7 @@ eff_up i j not =
           (subst (λ o. MatchOrdering o (i.eff < j.eff) (i.eff ≡ j.eff) (j.eff < i.eff)) e (ranked i.eff j.eff (nat_cmp i.eff j.eff) refl))))
     ] refl
 
--- A part covers a set where it has all that is kept of it, and nothing else but the set's own.
+-- A part covers a set if it has all that is kept of the set, and only items of the set.
 abbrev pub Covers : List Item → List Item → Type 0
 Covers part whole = (i : Item) → (Contains part i → Contains whole i) × (IsKept whole i → Contains part i)
 
@@ -42,7 +42,7 @@ covers_kept kept x are i = (λ h. ((are i).0 h).best.is_heard, (are i).1)
 pub covers_itself : (x : List Item) → Covers x x
 covers_itself x i = (λ h. h, λ kept. kept.best.is_heard)
 
--- best of a set is best of each part that it is in
+-- the best of a set is the best of each part that it is in
 pub best_part : (whole part : List Item) (k : Key) (i : Item) → AreAmong part whole → IsBest whole k i → Contains part i → IsBest part k i
 best_part whole part k i among best h = record {
   is_heard = h;
@@ -57,7 +57,7 @@ series_kept heard uid s best = record {
   alive = λ dead. subst CanDie best.about dead.can_die;
 }
 
--- a best series item stands at or above each series item of its UID
+-- a best series item is at or above each series item of its UID
 series_above : (heard : List Item) (uid : List ℕ) (s : Item) → Contains heard s → s.key ≡ Series uid → (t : Item) ×
     IsBest heard (Series uid) t × (s.eff ≤ t.eff)
 series_above heard uid s h about =
@@ -80,11 +80,11 @@ kept_part whole part i among kept h = record {
       });
 }
 
--- what is kept depends on which items there are alone
+-- what is kept depends only on which items there are
 pub kept_same : (x y : List Item) (i : Item) → SameItems x y → IsKept x i → IsKept y i
 kept_same x y i same kept = kept_part x y i (λ j h. (same j).1 h) kept ((same i).0 kept.best.is_heard)
 
--- Beside a set that has all that a part keeps, nothing of the part is later than what is kept.
+-- In a set that has all that a part keeps, nothing of the part is later than what is kept.
 none_later_in : (part kept_part whole : List Item) (i j : Item) → Covers kept_part part → AreAmong kept_part whole → IsKept whole i →
     Contains part j → j.key ≡ i.key → ¬ IsLater j i
 none_later_in part kept_of whole i j are among kept h about later =
@@ -159,7 +159,7 @@ pub kept_of_kept_lem : (x y kept_x kept_y : List Item) → AreKept kept_x x → 
     IsKept (x ++ y) i
 kept_of_kept_lem x y kept_x kept_y hx hy = kept_of_parts x y kept_x kept_y (covers_kept kept_x x hx) (covers_kept kept_y y hy)
 
--- the same beside a set of which nothing was left out
+-- the same next to a set from which nothing was left out
 pub kept_beside : (x y kept_x : List Item) → AreKept kept_x x → (i : Item) → IsKept (kept_x ++ y) i ↔ IsKept (x ++ y) i
 kept_beside x y kept_x hx = kept_of_parts x y kept_x y (covers_kept kept_x x hx) (covers_itself y)
 
@@ -193,7 +193,7 @@ below_itself x is = are_kept_same x x (x ++ x) (λ i. (Contains-append_left x x 
 pub below_from_same : (x z : List Item) → IsState z → SameItems x z → IsBelow x z
 below_from_same x z is same = are_kept_same z z (x ++ z) (λ i. let two = same_absorbed x z (λ j. (same j).0) i in (two.1, two.0)) is
 
--- z is what is kept of x and z, where it is what is kept of x, y and z
+-- z is what is kept of x and z, if it is what is kept of x, y and z
 below_by_more : (x y z : List Item) → IsState x → IsBelow y z → AreKept z (x ++ (y ++ z)) → IsBelow x z
 below_by_more x y z is below all =
     are_kept_by z (x ++ (y ++ z)) (x ++ z) (λ i. let two = kept_of_kept_lem x (y ++ z) x z is below i in (two.1, two.0)) all

@@ -1,4 +1,4 @@
--- The test of each item says whether it is kept.
+-- The test of an item says whether it is kept.
 use Rattle.std.proofs.Common.{◌≡◌, List, [], ◌∷◌, ◌++◌, refl, sym, ◌∙◌, ap, subst, inl, inr, Bool, true, false, not, ◌&&◌, ◌||◌, arith, ◌↔◌}
 use Rattle.std.proofs.Common.{IsTrue}
 use Rattle.std.specs.List.{Contains, AllPairs, list_any}
@@ -15,7 +15,7 @@ use Rattle.std.proofs.lemmas.List.Quantifiers.{all_pairs_push}
 use Rattle.itip_items.specs.Later.{revision_cmp, IsLater}
 use Rattle.itip_items.specs.declared.item.Item.{Item}
 use Rattle.itip_state.specs.Kept.{IsKept, AreKept}
-use Rattle.itip_state.specs.Slots.{key_cmp, key_total, key_exact}
+use Rattle.itip_state.specs.Slots.{slot_cmp, slot_total, slot_exact}
 use Rattle.itip_state.specs.Held.{is_series, is_below}
 use Rattle.itip_state.specs.Plain.{outdates, kills, keeps}
 use Rattle.itip_state.proofs.Members.{by_bool, cons_cases, cons_first, cons_later}
@@ -55,7 +55,7 @@ greater Greater e = refl
 -- ---- the test
 outdates_from : (o i : Item) → o.key ≡ i.key → IsLater o i → outdates o i ≡ true
 outdates_from o i about later =
-    ap (λ b. b && is_gt (revision_cmp o i)) (ap is_eq (ap (λ k. key_cmp k i.key) about ∙ tied_itself key_total i.key)) ∙ ap is_gt later
+    ap (λ b. b && is_gt (revision_cmp o i)) (ap is_eq (ap (λ k. slot_cmp k i.key) about ∙ tied_itself slot_total i.key)) ∙ ap is_gt later
 
 pub kept_from_test : (heard : List Item) (i : Item) → Contains heard i → keeps heard i ≡ true → IsKept heard i
 kept_from_test heard i h e =
@@ -79,8 +79,8 @@ pub test_from_kept : (heard : List Item) (i : Item) → IsKept heard i → keeps
 test_from_kept heard i kept =
     ap (λ b. b && not (list_any (λ (s : Item). kills s i) heard)) (true_not (list_any (λ (o : Item). outdates o i) heard) (λ e.
     let found = any_found (λ (o : Item). outdates o i) heard e in
-    let tests = both (is_eq (key_cmp found.0.key i.key)) (is_gt (revision_cmp found.0 i)) found.2 in
-    kept.best.none_later found.0 found.1 (key_exact found.0.key i.key ((Equal-is (key_cmp found.0.key i.key)).0 tests.0))
+    let tests = both (is_eq (slot_cmp found.0.key i.key)) (is_gt (revision_cmp found.0 i)) found.2 in
+    kept.best.none_later found.0 found.1 (slot_exact found.0.key i.key ((Equal-is (slot_cmp found.0.key i.key)).0 tests.0))
     (greater (revision_cmp found.0 i) tests.1)))
     ∙ true_not (list_any (λ (s : Item). kills s i) heard) (λ e.
     let found = any_found (λ (s : Item). kills s i) heard e in

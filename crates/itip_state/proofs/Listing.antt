@@ -1,4 +1,4 @@
--- Whether a text is among others, by a comparison of each.
+-- Whether a text is among others, by comparing it with each.
 use Rattle.std.proofs.Common.{◌≡◌, ℕ, List, [], ◌∷◌, ◌||◌, refl, sym, ◌∙◌, ap, subst, inl, inr, Bool, true, false}
 use Rattle.std.specs.List.{Contains, list_any}
 use Rattle.std.specs.Ordering.{is_eq}

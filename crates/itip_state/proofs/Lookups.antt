@@ -36,7 +36,7 @@ module _ {K V : Type 0} {cmp : K → K → Ordering} (total : IsTotalOrder cmp) 
   none_in_tail e es q s k =
       lookup-none _ es (none_past_head (eq_by_cmp_equiv total) q e es (IsDistinct-from_sorted cmp (keys_of (e ∷ es)) s) k)
 
-  -- what the tail has at a key, the whole has
+  -- what the tail has at a key, the whole list has there
   pub from_tail : (e : K × V) (es : List (K × V)) (q : K) (v : V) → IsStrictlySortedBy cmp (keys_of (e ∷ es)) →
       value_at cmp es q ≡ Some v → value_at cmp (e ∷ es) q ≡ Some v
   from_tail e es q v s h = by_bool (is_eq (cmp q e.0)) (value_at cmp (e ∷ es) q ≡ Some v)

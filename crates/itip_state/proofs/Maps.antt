@@ -32,7 +32,7 @@ first_of : (xs : List Item) → 0 < length xs → (i : Item) × Contains xs i
 first_of [] h = absurd (omega (arith, h))
 first_of (x ∷ xs) h = (x, cons_first x xs)
 
--- where something is heard something is kept
+-- if something is heard, something is kept
 kept_some : (z h : List Item) → AreKept z h → (i : Item) → Contains h i → 0 < length z
 kept_some [] h kept i there =
     let found = best_above h i there in
@@ -102,7 +102,7 @@ kept_below_at uid (Some v) None p q kept =
     absurd (omega (arith, x))
 kept_below_at uid (Some v) (Some w) p q kept = kept_below uid v w p.0 q.0 kept
 
--- what two are joined to has what is kept of their items
+-- the join of two has what is kept of their items
 module _ (uid : List ℕ) (a b c : UidState) (p : IsSound uid a) (q : IsSound uid b) (j : IsJoined a b c) where
   joined_sound : IsSound uid c
   joined_sound = record { placed = placed_of_two uid a b c j.of_two j.whole p.placed q.placed; whole = j.whole }
@@ -229,7 +229,7 @@ held_state es p = kept_from_parts (items_of es) (items_of es) (λ uid. items_at 
     (part_at es p)
     (λ uid. state_at uid (at es uid) (sound_at es p.sound uid))
 
--- two that tell no more than each other have the same items
+-- two maps that tell no more than each other have the same items
 pub same_held : (xs zs : List (List ℕ × UidState)) → AreHeld xs → AreHeld zs → AreBelow xs zs → AreBelow zs xs →
     SameItems (items_of xs) (items_of zs)
 same_held xs zs p r up down = below_both_ways (items_of xs) (items_of zs) (state_below xs zs p r up) (state_below zs xs r p down)
@@ -237,7 +237,7 @@ same_held xs zs p r up down = below_both_ways (items_of xs) (items_of zs) (state
 pub below_same : (xs zs : List (List ℕ × UidState)) → AreHeld xs → AreHeld zs → SameItems (items_of xs) (items_of zs) → AreBelow xs zs
 below_same xs zs p r same = held_below xs zs p r (below_from_same (items_of xs) (items_of zs) (held_state zs r) same)
 
--- what two are joined to is what is kept of both
+-- the join of two maps is what is kept of both
 pub joined_held : (xs ys zs : List (List ℕ × UidState)) → AreHeld xs → AreHeld ys → AreOrdered zs →
     ((uid : List ℕ) → IsJoinedAt (at xs uid) (at ys uid) (at zs uid))
     → HoldKept (items_of xs ++ items_of ys) zs

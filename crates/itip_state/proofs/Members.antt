@@ -54,7 +54,7 @@ single_is x [] low high e = absurd (omega (arith, low))
 single_is x (y ∷ []) low high e = ap (λ z. z ∷ []) (sym e)
 single_is x (y ∷ z ∷ zs) low high e = absurd (omega (arith, high))
 
--- a fact at either end of a call
+-- a fact that holds whether a call succeeds or fails
 pub on_both : {A E P Q R : Type 0} (r : Result A E) → (P → R) → (Q → R) → OnOk r P → OnErr r Q → R
 on_both (Ok x) f g p q = f p
 on_both (Err e) f g p q = g q

@@ -1,4 +1,4 @@
--- What is kept, and what moves, where items that were told before, or are dead, are left out.
+-- What is kept and what moves, if items that were told before or are dead are left out.
 use Rattle.std.proofs.Common.{◌≡◌, ◌≢◌, List, ℕ, [], ◌∷◌, ◌++◌, ◌↔◌, ◌⊎◌, inl, inr, refl, sym, ◌∙◌, ap, subst, append-nil, Some, None, true}
 use Rattle.std.proofs.Common.{false}
 use Rattle.std.specs.List.{Contains}
@@ -54,7 +54,7 @@ nothing_new set items news j old are = record {
   ];
 }
 
--- what is kept, and was told, is what told it
+-- what is kept and was told by a set is in the set
 told_kept : (set items : List Item) (i : Item) → IsKept (set ++ items) i → IsTold set i → Contains set i
 told_kept set items i kept told = subst (Contains set)
     (neither_later told.teller i (kept.best.none_later told.teller (Contains-append_left set items told.teller told.there) told.same)
@@ -91,7 +91,7 @@ covered_kept part whole covers i =
     (subst (λ (w : List Item). IsKept (part ++ []) i ↔ IsKept w i) (append-nil whole)
     (kept_of_parts whole [] part [] covers (covers_itself []) i))
 
--- the news count beside the set as much as all items
+-- beside the set, the news have the same effect as all items
 pub news_kept : (set items news : List Item) → AreNews set items news → (i : Item) → IsKept (set ++ news) i ↔ IsKept (set ++ items) i
 news_kept set items news are = covered_kept (set ++ news) (set ++ items) (news_cover set items news are)
 
@@ -133,7 +133,7 @@ new_kept set items news i are kept = record {
     new : ¬ IsOutdone set i
     new = are.new i kept.best.is_heard
 
--- beside items of other UIDs is kept of a UID what was kept
+-- beside items of other UIDs, the same is kept of a UID
 kept_apart : (set news : List Item) (uid : List ℕ) → ((i : Item) → Contains news i → uid_of i.key ≢ uid) → KeepSame uid set (set ++ news)
 kept_apart set news uid none i of_uid =
     (up, λ kept. kept_part (set ++ news) set i (Contains-append_left set news) kept (old i kept.best.is_heard of_uid))
@@ -172,7 +172,7 @@ news_move set items news are = record {
       (λ k. all.0 (apart.0 k), λ k. apart.1 (all.1 k));
 }
   where
-    -- of a UID that keeps what it kept no item of the news is kept
+    -- no item of the news is kept of a UID that keeps what it kept
     none_kept : (i k : Item) → KeepSame (uid_of i.key) set (set ++ items) → uid_of k.key ≡ uid_of i.key → ¬ IsKept news k
     none_kept i k same of_uid is =
         let whole : IsKept (set ++ items) k = (news_kept set items news are k).0 (new_kept set items news k are is) in
@@ -219,7 +219,7 @@ module _ (sh : UidState) (item : Item) (b : Best) where
       by held not (inl first) = let x : true ≡ false = sym first.0 ∙ e in absurd (cc)
       by held not (inr other) = subst (λ (x : Best). ¬ IsLater item x.value) (one held b (sym other.1 ∙ there)) not
 
--- ---- where nothing, or this, is held of a UID
+-- ---- nothing, or this, is held of a UID
 module _ (es : List (List ℕ × UidState)) (p : AreHeld es) (item : Item) where
   abbrev all : List Item
   all = items_of es
@@ -267,7 +267,7 @@ module _ (es : List (List ℕ × UidState)) (p : AreHeld es) (item : Item) where
           not_later = not;
         }
 
-    -- where an item is outdone, one of the two is seen here
+    -- if an item is outdone, one of the two is seen here
     pub outdone_here : IsOutdone all item → (kills sh.series item.key item ≡ true) ⊎ HoldsNoEarlier sh item
     outdone_here (inl told) =
         inr (holds_as told.teller told.same told.not_later

@@ -1,4 +1,4 @@
--- Where nothing is news, or nothing is there.
+-- What holds if nothing is news, or nothing is there.
 use Rattle.std.proofs.Common.{◌≡◌, ◌↔◌, ℕ, List, [], ◌∷◌, ◌++◌, ◌<◌, ◌≤◌, ◌⊎◌, inl, inr, refl, sym, ◌∙◌, ap, subst, Bool, true, false, nat_lt, length, map, get_or, arith, append-nil}
 use Rattle.std.specs.List.{Contains}
 use Rattle.std.specs.Ordering.{nat_cmp}
@@ -12,10 +12,10 @@ use Rattle.itip_items.specs.declared.item.Item.{Item}
 use Rattle.itip_items.specs.declared.key.Key.{Key}
 use Rattle.itip_items.specs.declared.key.Key.TheVariants.{Series}
 use Rattle.itip_state.specs.DyingLaws.{less_from, from_less}
-use Rattle.itip_state.specs.Held.{UidState, can_die, items_of, uid_state_items, AreSound, AreHeld, HoldKept}
+use Rattle.itip_state.specs.Held.{UidState, can_die, items_of, uid_state_items, AreSound, HoldKept}
 use Rattle.itip_state.specs.Kept.{IsBest, IsKept, IsDead, CanDie, AreKept, AreUidsOf, IsItemsOf}
 use Rattle.itip_state.specs.Order.{IsBelow}
-use Rattle.itip_state.specs.Told.{IsOutdone, AreOutdone, AreNews}
+use Rattle.itip_state.specs.Told.{AreOutdone, AreNews}
 use Rattle.itip_state.proofs.Best.{has_best, best_above}
 use Rattle.itip_state.proofs.Keeping.{eff_up, best_part, series_kept, kept_beside}
 use Rattle.itip_state.proofs.Maps.{held_state}
@@ -42,7 +42,7 @@ told_dead heard b = by_bool (can_die b.key) (IsDead heard b ⊎ (¬ IsDead heard
           cc))
     ]
 
--- what adds nothing to a set is told by it, or dead beside it
+-- what adds nothing to a set is told by it or dead beside it
 pub below_outdone : (set items : List Item) → IsBelow items set → AreOutdone set items
 below_outdone set items adds i h =
     let whole : List Item = items ++ set in
@@ -69,7 +69,7 @@ below_outdone set items adds i h =
       })
     ]
 
--- where hearing items changes nothing, what is held is what is kept with them too
+-- if hearing items changes nothing, what is held is also what is kept with them
 pub outdone_hold : (es : List (List ℕ × UidState)) (heard items : List Item) → AreOutdone (items_of es) items → HoldKept heard es →
     HoldKept (heard ++ items) es
 outdone_hold es heard items outdone hold = record { held = hold.held; kept = kept }
@@ -126,7 +126,7 @@ uids_of_nothing = record {
   all = λ item h. absurd (none_in item h);
 }
 
--- what has the members of nothing is nothing
+-- a list with the members of an empty list is empty
 module _ {A : Type 0} where
   pub no_texts : (xs ys : List A) → ((x : A) → Contains xs x ↔ Contains ys x) → ys ≡ [] → xs ≡ []
   no_texts [] ys same none = refl
@@ -142,14 +142,14 @@ no_news set items [] are below = refl
 no_news set items (x ∷ news) are below =
     let here : Contains (x ∷ news) x = cons_first x news in absurd (are.new x here (below_outdone set items below x (are.among x here)))
 
--- a UID of which something is held, where nothing is there of these UIDs
+-- if nothing is there of these UIDs, nothing is held of one of them
 pub none_of_these : {A : Type 0} (set : List Item) (uid : A → List ℕ) (uids : List A) (k : ℕ) (u : A) → k < length uids →
     u ≡ get_or uids k u → ((item : Item) → Contains [] item ↔ (Contains set item × Contains (map uid uids) (uid_of item.key))) →
     (x : Item) → Contains set x → uid_of x.key ≡ uid u → ⊥
 none_of_these set uid uids k u below is none x there about =
     none_in x ((none x).1 (there, subst (Contains (map uid uids)) (sym about) (map_has uid uids k u below is)))
 
--- items stand where something is held
+-- if something is held, there are items
 pub none_held : (done : List Item) (es rest : List (List ℕ × UidState)) (e : List ℕ × UidState) → es ≡ e ∷ rest → AreSound es →
     done ++ items_of es ≡ [] → ⊥
 none_held done es rest e cut sound none =

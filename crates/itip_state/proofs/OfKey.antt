@@ -1,4 +1,4 @@
--- Of items in the order of their keys, each is the best of its key.
+-- Among items in the order of their keys, each is the best of its key.
 use Rattle.std.proofs.Common.{◌≡◌, ◌≤◌, ℕ, List, [], ◌∷◌, length, slice_index_or, zero, suc, refl, sym, ◌∙◌, ap, subst, inl, inr, arith}
 use Rattle.std.proofs.Common.{Option, Some, None}
 use Rattle.std.specs.Prelude.{MatchOption}
@@ -70,7 +70,7 @@ not_before uid k same not e = by k (ap (λ (u : List ℕ). slice_cmp nat_cmp u u
     by (Refresh u id attendee) tied not e = let x : Less ≡ Greater = sym e ∙
         ap (λ o. ordering_then o (rest_cmp (Refresh u id attendee) (Series uid))) tied in cc
 
--- where the first item of a UID is no series item, there is none
+-- if the first item of a UID is not a series item, there is none
 pub first_is_none : (uid : List ℕ) (x : Item) (xs : List Item) → AscendKeys (x ∷ xs) → uid_of x.key ≡ uid →
     ((u : List ℕ) → x.key ≡ Series u → ⊥) → (i : Item) → Contains (x ∷ xs) i → i.key ≡ Series uid → ⊥
 first_is_none uid x xs a about not i h same = elim (cons_cases x xs i h) [

@@ -1,4 +1,4 @@
--- A sort and a `dedup` of references, seen at what they refer to.
+-- A sort and a `dedup` of references, in terms of what they refer to.
 use Rattle.std.proofs.Common.{◌≡◌, ◌∙◌, ◌+◌, ◌<◌, List, [], ◌∷◌, refl, sym, ap, subst, Bool, cond, map, length, get_or, arith}
 use Rattle.std.specs.List.{dedup, dedup_from}
 use Rattle.std.specs.List.Sorted.{IsSorted}

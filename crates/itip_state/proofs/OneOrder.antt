@@ -51,7 +51,7 @@ module _ {X : Type 0} (R : X → X → Type 0) (apart : (x y : X) → R x y → 
       )) in
       λ i. one i ∷ rest i
 
-  -- where the first of a list stands behind the first of another, all of the list do
+  -- if the first of a list comes after the first of another, so does all of the list
   after_first : (x : X) (xs : List X) (y : X) (ys : List X) → AllPairs R (x ∷ xs) → AllPairs R (y ∷ ys) → Contains ys x → (i : X) →
       Contains (x ∷ xs) i → Contains (y ∷ ys) i → Contains ys i
   after_first x xs y ys up over behind i h g = elim (cons_cases x xs i h) [
@@ -62,7 +62,7 @@ module _ {X : Type 0} (R : X → X → Type 0) (apart : (x y : X) → R x y → 
     ]
   ]
 
-  -- a list whose members all lie in another one is not longer
+  -- a list whose members are all in another list is not longer than that
   pub not_longer : (xs ys : List X) → AllPairs R xs → AllPairs R ys → ((x : X) → Contains xs x → Contains ys x) → length xs ≤ length ys
   not_longer [] ys up over in_ys = omega arith
   not_longer (x ∷ xs) [] up over in_ys = absurd (none_in x (in_ys x (cons_first x xs)))

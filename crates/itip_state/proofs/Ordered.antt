@@ -1,4 +1,4 @@
--- What is held stands in the order of keys, each item once.
+-- What is held is in the order of keys, each item once.
 use Rattle.std.proofs.Common.{◌≡◌, ℕ, ◌<◌, List, [], ◌∷◌, refl, sym, ◌∙◌, ap, subst, inl, inr, true, false, get_or, length, arith}
 use Rattle.std.specs.List.{Contains, AllByRecursion, AllPairs}
 use Rattle.std.specs.Map.{keys_of}
@@ -37,14 +37,14 @@ then_tied Less p e = refl
 then_tied Equal p e = e
 then_tied Greater p e = refl
 
--- keys of one UID are in the same order either way
-slot_less : (a b : Key) → uid_of a ≡ uid_of b → slot_cmp a b ≡ Less → key_cmp a b ≡ Less
-slot_less a b e less =
+-- keys of one UID are in the same order as keys and as slots
+pub slot_is_key : (a b : Key) → uid_of a ≡ uid_of b → slot_cmp a b ≡ key_cmp a b
+slot_is_key a b e =
     let tied : slice_cmp nat_cmp (uid_of a) (uid_of b) ≡ Equal = ap (λ u. slice_cmp nat_cmp u (uid_of b)) e ∙
     tied_itself nat_list_cmp_total (uid_of b) in
-    tie_uid a b e ∙ sym (then_tied (rest_cmp a b) (slice_cmp nat_cmp (uid_of a) (uid_of b)) tied) ∙ less
+    then_tied (rest_cmp a b) (slice_cmp nat_cmp (uid_of a) (uid_of b)) tied ∙ sym (tie_uid a b e)
 
--- a series item stands before the other items of its UID
+-- a series item comes before the other items of its UID
 series_before : (k : Key) (uid : List ℕ) → uid_of k ≡ uid → is_series k ≡ false → key_cmp (Series uid) k ≡ Less
 series_before (Series u) uid e s = let x : true ≡ false = s in absurd (cc)
 series_before (Instance u i) uid e s = tie_uid (Series uid) (Instance u i) (sym e)
@@ -59,7 +59,7 @@ all_after : (uid : List ℕ) (k : Key) (es : List (Key × Best)) → uid_of k �
 all_after uid k [] of_uid a p i h = absurd (none_in i h)
 all_after uid k (e ∷ es) of_uid a p i h = elim (cons_cases e.1.value (entry_items es) i h) [
   | inl same ↦ subst (λ (q : Key). key_cmp k q ≡ Less) (sym p.0.in_place ∙ ap (λ (j : Item). j.key) same)
-      (slot_less k e.0 (of_uid ∙ sym p.0.about) a.0)
+      (sym (slot_is_key k e.0 (of_uid ∙ sym p.0.about)) ∙ a.0)
   | inr rest ↦ all_after uid k es of_uid a.1 p.1 i rest
 ]
 
@@ -86,7 +86,7 @@ uid_state_ascends uid sh sound =
     (series_before j.key uid there.about there.other))
 
 -- ---- all UIDs
--- what holds of each UID that is held holds of that of each item
+-- what holds for each UID that is held holds for the UID of each item
 of_uids : (P : List ℕ → Type 0) (es : List (List ℕ × UidState)) → AreSound es → AllByRecursion P (keys_of es) → (i : Item) →
     Contains (items_of es) i → P (uid_of i.key)
 of_uids P [] s a i h = absurd (none_in i h)

@@ -1,4 +1,4 @@
--- A map by UID, seen as what it holds: what stands at a UID, and what becomes of it.
+-- A map by UID, seen as what it holds: what is at a UID, and what becomes of it.
 use Rattle.std.proofs.Common.{◌≡◌, ℕ, List, [], ◌∷◌, refl, sym, ◌∙◌, ap, subst, length, suc, Bool, true, false, Option, Some, None}
 use Rattle.std.specs.Prelude.{cond, option_map}
 use Rattle.std.specs.List.Sorted.{IsStrictlySortedBy}
@@ -132,7 +132,7 @@ module _ {V : Type 0} (of : V → UidState) where
         (subst (IsJoinedAt (option_map of (value_at uid_cmp xs q)) (option_map of n)) (seen_at zs q)
         (joined_map (value_at uid_cmp xs q) n (value_at uid_cmp zs q) j))
 
-    -- maps with their order beside them
+    -- maps that carry a proof of their order
     module _ {T : Type 0} (map_of : T → List (List ℕ × V)) (ordered : (t : T) → IsStrictlySortedBy uid_cmp (keys_of (map_of t)))
         (pack : (es : List (List ℕ × V)) → IsStrictlySortedBy uid_cmp (keys_of es) → T)
         (packed : (es : List (List ℕ × V)) (s : IsStrictlySortedBy uid_cmp (keys_of es)) → map_of (pack es s) ≡ es)

@@ -37,7 +37,7 @@ of_none set i = (λ h. absurd (none_in i h), λ h. absurd (none_in (uid_of i.key
 
 module _ (set items more : List Item) (us now : List (List ℕ)) (uid : List ℕ) (is : now ≡ us ++ uid ∷ []) (part : ArePartOf items set us)
   where
-    -- with the items of one UID more
+    -- with the items of one more UID
     pub of_more : ArePart uid more set → ArePartOf (items ++ more) set now
     of_more of i = (
       λ h. elim (Contains-append_cases items more i h) [

@@ -25,7 +25,7 @@ series_key (Range uid id) e = let x : false ≡ true = e in absurd (cc)
 series_key (Answer uid id attendee) e = let x : false ≡ true = e in absurd (cc)
 series_key (Refresh uid id attendee) e = let x : false ≡ true = e in absurd (cc)
 
--- an item that has a place among the others is no series item
+-- an item that has a place among the others is not a series item
 module _ {A : Type 0} (place : A → Key) (key : Key) where
   pub no_place : (o : Option A) → IsPlaceOf (option_map place o) key → is_some o ≡ false → is_series key ≡ true
   no_place None p e = p
@@ -58,7 +58,7 @@ both false b e = let x : false ≡ true = e in absurd (cc)
 pub and_true : (a b : Bool) → a ≡ true → b ≡ true → (a && b) ≡ true
 and_true a b p q = ap (λ x. x && b) p ∙ q
 
--- a series item of a set, of an item's UID and of a greater sequence, makes the item dead where its key can die
+-- a series item of a set with an item's UID and a greater sequence makes the item dead, if its key can die
 pub dead_under : (all : List Item) (s x : Item) → Contains all s → s.key ≡ Series (uid_of x.key) → can_die x.key ≡ true → x.eff < s.eff →
     IsDead all x
 dead_under all s x h key can_x low =
@@ -85,7 +85,7 @@ below_dead all x dead =
     (ap is_eq (ap (λ u. slice_cmp nat_cmp u (uid_of x.key)) uid ∙ tied_itself nat_list_cmp_total (uid_of x.key)))
     (from_less x.eff dead.series.eff dead.below))
 
--- what a series item that is held kills
+-- what a held series item kills
 pub killed : (s : Item) (key : Key) (x : Item) → kills (Known (best s)) key x ≡ true → (can_die key ≡ true) × (x.eff < s.eff)
 killed s key x e = let parts = both (can_die key) (nat_lt x.eff s.eff) e in (parts.0, less_from x.eff s.eff parts.1)
 

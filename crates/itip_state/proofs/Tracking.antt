@@ -40,7 +40,7 @@ Sets = BTreeMap (List ℕ) DueSet
 abbrev entry_alone : Item → UidState
 entry_alone i = record { series = Nothing; entries = (i.key, best i) ∷ [] }
 
--- an item that is no series item, alone, stands at its key and nowhere else
+-- what is held if one item alone was heard is that item at its key
 alone_at : (item : Item) (key : Key) (b : Best) → value_at slot_cmp (alone item).entries key ≡ Some b →
     (key ≡ item.key) × (b ≡ best item)
 alone_at item key b e = by_bool (is_series item.key) ((key ≡ item.key) × (b ≡ best item))
@@ -115,7 +115,7 @@ module _ (held now : UidState) (item : Item) (was set : DueSet) (joined : IsJoin
 module _ (u : List ℕ) (was sets : Sets) (held now : List (List ℕ × UidState)) (tracked : AreTracked was held)
     (sets_apart : (q : List ℕ) → is_eq (uid_cmp u q) ≡ false → get uid_cmp sets q ≡ get uid_cmp was q)
     (held_apart : (q : List ℕ) → is_eq (uid_cmp u q) ≡ false → at now q ≡ at held q) where
-  -- the UIDs that nothing happens to stay as they are
+  -- the UIDs to which nothing happens stay as they are
   pub tracked_but : ((set : DueSet) (state : UidState) → get uid_cmp sets u ≡ Some set → at now u ≡ Some state → AreDue set state.entries) →
       AreTracked sets now
   tracked_but here q set state s e = by_bool (is_eq (uid_cmp u q)) (AreDue set state.entries)
@@ -128,7 +128,7 @@ module _ (u : List ℕ) (was sets : Sets) (held now : List (List ℕ × UidState
   pub tracked_none : get uid_cmp sets u ≡ None → AreTracked sets now
   tracked_none none = tracked_but (λ set state s e. absurd (none_some set (sym none ∙ s)))
 
--- what a set of a UID is asked of, once what is held of the UID is another state
+-- what is asked of the set of a UID, once what is held of the UID is another state
 due_in : (o : Option DueSet) (state : UidState) (set : DueSet) → AreDueIn o state.entries → o ≡ Some set → AreDue set state.entries
 due_in o state set are e = subst (λ (p : Option DueSet). AreDueIn p state.entries) e are
 
@@ -138,7 +138,7 @@ pub set_of : (u : List ℕ) (was : Sets) (held : List (List ℕ × UidState)) �
 set_of u was held tracked None is state e = tt
 set_of u was held tracked (Some set) is state e = tracked u set state (sym is) e
 
--- the set of a UID goes, and its place gets something else
+-- the set of a UID is removed, and something else is held of the UID
 module _ (u : List ℕ) (was mid : Sets) (held now : List (List ℕ × UidState)) (tracked : AreTracked was held) (o : Option UidState)
     (put : (q : List ℕ) → at now q ≡ cond (is_eq (uid_cmp u q)) o (at held q)) where
   held_apart : (q : List ℕ) → is_eq (uid_cmp u q) ≡ false → at now q ≡ at held q
@@ -197,7 +197,7 @@ module _ (item : Item) (was sets : Sets) (held now : List (List ℕ × UidState)
       let is : IsJoined p.0 (alone item) state = subst (IsJoined p.0 (alone item)) (some_one r.0 state (sym r.1 ∙ e)) r.2 in
       followed_due p.0 state item p.1 set is (tracked (uid_of item.key) p.1 p.0 p.3 p.2) p.4.0 p.4.1
 
-  -- where the hearing is refused, all stays
+  -- if an allocation fails, all stays
   pub tracked_same : now ≡ held → ((q : List ℕ) → is_eq (uid_cmp (uid_of item.key) q) ≡ false → get uid_cmp sets q ≡ get uid_cmp was q) →
       AreTracked sets now
   tracked_same same others = subst (AreTracked sets) (sym same) (tracked_but (uid_of item.key) was sets held held tracked others (λ q n. refl)
@@ -212,7 +212,7 @@ module _ (item : Item) (was sets : Sets) (held now : List (List ℕ × UidState)
 pub tracked_nothing : (sets : Sets) (held : List (List ℕ × UidState)) → ((q : List ℕ) → get uid_cmp sets q ≡ None) → AreTracked sets held
 tracked_nothing sets held none q set state s e = absurd (none_some set (sym (none q) ∙ s))
 
--- ---- a series item is no item that can die
+-- ---- a series item can't die
 pub series_stays : (key : Key) → is_series key ≡ true → can_die key ≡ false
 series_stays (Series uid) e = refl
 series_stays (Instance uid id) e = let x : false ≡ true = e in absurd (cc)

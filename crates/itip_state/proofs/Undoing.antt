@@ -1,4 +1,4 @@
--- Changes of what is held of UIDs, and how they are taken back.
+-- Changes of what is held of UIDs, and how they are undone.
 use Rattle.std.proofs.Common.{◌≡◌, ℕ, List, [], ◌∷◌, ◌++◌, refl, sym, ◌∙◌, ap, subst, inl, inr, true, false, Option, Some, None}
 use Rattle.std.specs.Prelude.{cond, is_some}
 use Rattle.std.specs.List.Sorted.{IsStrictlySortedBy}
@@ -36,7 +36,7 @@ none_some : {X : Type 0} (x : X) → None ≡ Some x → ⊥
 none_some x e = cc
 
 -- ---- one UID
--- what is noted of a key
+-- what is noted for a key
 pub noted_at : (key : Key) (held : Option Best) (w : UidState) → IsReduced w → held ≡ value_at slot_cmp w.entries key →
     IsBackAt key held w w
 noted_at key held w whole is = record {
@@ -50,7 +50,7 @@ noted_at key held w whole is = record {
   whole = whole;
 }
 
--- an item alone, that is no series item
+-- one item alone that is not a series item
 alone_other : (item : Item) → is_series item.key ≡ false → alone item ≡ record { series = Nothing; entries = (item.key, best item) ∷ [] }
 alone_other item e =
     ap (λ b. cond b (record { series = Known (best item); entries = [] })
@@ -68,7 +68,7 @@ module _ (item : Item) (a c : UidState) (of : HoldsOfTwo a (alone item) c) (whol
       none_below Nothing t e l = e
       none_below (Known s) t e l = absurd (subst (IsLiftedBelow IsNoLater (Known s)) e l)
 
-  -- what was there is alive, and so it still stands somewhere
+  -- what was there is alive, so something is still there
   not_gone : (q : Key) (v : Best) → value_at slot_cmp a.entries q ≡ Some v → value_at slot_cmp c.entries q ≡ None → ⊥
   not_gone q v e n =
       let dead : is_killed c.series q v ≡ true = subst (λ (o : Option Best). IsBelowUnder (is_killed c.series q) IsNoLater (Some v) o) n
@@ -108,13 +108,13 @@ module _ (item : Item) (a c : UidState) (of : HoldsOfTwo a (alone item) c) (whol
     whole = whole;
   }
 
--- an entry that is put back where one stands
+-- an entry that is put back where there is one
 put_there : (held there : Option Best) → (is_some held ≡ true → is_some there ≡ true) → in_place_of there held ≡ held
 put_there None there s = refl
 put_there (Some b) (Some was) s = refl
 put_there (Some b) None s = let x : false ≡ true = s refl in absurd (cc)
 
--- two states of a UID with the same at each key are one
+-- two states of a UID with the same at each key are equal
 pub back_is : (key : Key) (held : Option Best) (v w z : UidState) → IsBackAt key held v w → z.series ≡ v.series →
     IsStrictlySortedBy slot_cmp (keys_of z.entries)
     → ((q : Key) → value_at slot_cmp z.entries q ≡ cond (is_eq (slot_cmp key q)) (in_place_of (value_at slot_cmp v.entries key) held)
@@ -164,7 +164,7 @@ pub undone_pop : (cs : List Hearing) (c : Hearing) (now start : List (List ℕ �
 undone_pop [] c now start (m, same, one) = (start, subst (λ (n : List (List ℕ × UidState)). IsUndone c n start) (sym same) one, refl)
 undone_pop (d ∷ cs) c now start (m, rest, first) = let r = undone_pop cs c now m rest in (r.0, r.1, (m, r.2, first))
 
--- ---- a change that is taken back
+-- ---- a change that is undone
 -- with `o` at the UID, a map is what it was before
 pub undone_put : (now next before : List (List ℕ × UidState)) (k u : List ℕ) (o : Option UidState) → k ≡ u → AreOrdered next →
     AreOrdered before
@@ -194,7 +194,7 @@ replaced_twice old mid now u x y there first second q =
     (λ apart. second q ∙ ap (λ b. cond b (replaced (at mid u) y) (at mid q)) apart ∙ first q ∙
     ap (λ b. cond b (replaced (at old u) x) (at old q)) apart ∙ sym (ap (λ b. cond b (Some y) (at old q)) apart))
 
--- what stands at a key, once it was put there, is there and nowhere else
+-- what is put at a key is there, and at no other key
 pub put_at : (now next : List (List ℕ × UidState)) (k u : List ℕ) (o : Option UidState) → k ≡ u →
     ((q : List ℕ) → at next q ≡ cond (is_eq (uid_cmp k q)) o (at now q)) → at next k ≡ o
 put_at now next k u o about put = put k ∙ ap (λ b. cond b o (at now k)) (itself nat_list_cmp_total exact_bytes k)

@@ -9,7 +9,7 @@ use Rattle.itip_state.specs.Order.{IsState}
 use Rattle.itip_state.specs.Organizers.{is_organizers, used_by, greater, greatest, IsOrganizers, IsUsed, IsLastUsed}
 use Rattle.itip_state.proofs.Members.{none_in, cons_cases, cons_first, cons_later}
 
--- no sequence is up to any
+-- a missing sequence is up to any
 abbrev IsUpTo : Option ℕ → Option ℕ → Type 0
 IsUpTo None b = Unit {0}
 IsUpTo (Some a) None = ⊥

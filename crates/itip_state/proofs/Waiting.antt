@@ -1,4 +1,4 @@
--- Items that are heard in turn, of which some wait to be heard last.
+-- Items that are heard one after another, some of which wait to be heard last.
 use Rattle.std.proofs.Common.{◌≡◌, ℕ, List, [], ◌∷◌, ◌++◌, refl, sym, ◌∙◌, ap, subst, inl, inr, true, false, Option, Some, None}
 use Rattle.std.proofs.Common.{append_assoc, append-nil}
 use Rattle.std.specs.Prelude.{cond, is_some}

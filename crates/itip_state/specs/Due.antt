@@ -32,26 +32,26 @@ pub record IsDue (due : DueSet) (key : Key) (best : Best) : Type 0 where
   pub not_above : sequence ≤ best.value.eff
   pub there : has due (sequence, key) ≡ true
 
--- each entry that can die is
+-- each entry that can die is in the set in this way
 abbrev pub AreDue : DueSet → List (Key × Best) → Type 0
 AreDue due entries = (key : Key) (best : Best) → value_at slot_cmp entries key ≡ Some best → can_die key ≡ true → IsDue due key best
 
--- where there is such a set
+-- the same, if there is a set
 abbrev pub AreDueIn : Option DueSet → List (Key × Best) → Type 0
 AreDueIn None entries = Unit {0}
 AreDueIn (Some due) entries = AreDue due entries
 
--- the same of each UID that has one
+-- the same for each UID that has a set
 abbrev pub AreTracked : BTreeMap (List ℕ) DueSet → List (List ℕ × UidState) → Type 0
 AreTracked due held = (uid : List ℕ) (set : DueSet) (state : UidState) →
     get (slice_cmp nat_cmp) due uid ≡ Some set → at held uid ≡ Some state → AreDue set state.entries
 
--- the sequence of a series item, below which an item can be dead
+-- the sequence of the series item, below which an item can be dead; 0 if there is none
 abbrev pub sequence_of : Lift Best → ℕ
 sequence_of Nothing = 0
 sequence_of (Known series) = series.value.eff
 
--- what stands at a key stays, or is dead and goes
+-- what is at a key stays, or is dead and goes
 abbrev pub IsLeft : Lift Best → Key → Option Best → Option Best → Type 0
 IsLeft series key old new = (new ≡ old) ⊎ ((new ≡ None) × (alive_part (is_killed series key) old ≡ None))
 
@@ -59,8 +59,8 @@ IsLeft series key old new = (new ≡ old) ⊎ ((new ≡ None) × (alive_part (is
 abbrev pub AreAlive : Lift Best → List (Key × Best) → Type 0
 AreAlive series entries = (key : Key) (best : Best) → value_at slot_cmp entries key ≡ Some best → is_killed series key best ≡ false
 
--- A set of a UID, where there was one, after an item comes: it may be dropped; else it keeps what it had, and has the item's
--- key where that is new. Of a UID of which nothing was held there is none.
+-- The set of a UID after an item is heard, if there was one: it may be dropped; otherwise it keeps what it had, and has the item's key if
+-- that is new and its item can die. A UID of which nothing was held has no set.
 abbrev pub IsFollowed : Option UidState → Item → Option DueSet → Option DueSet → Type 0
 IsFollowed held item was None = Unit {0}
 IsFollowed None item was (Some set) = ⊥
@@ -79,7 +79,7 @@ abbrev pub items_under : ℕ → List (Key × Best) → List Item
 items_under sequence [] = []
 items_under sequence (e ∷ es) = item_under sequence e.0 e.1 ++ items_under sequence es
 
--- these were added to others: all of the entries that are under the sequence, and none that is no entry's
+-- these were added to others: the items of all entries under the sequence, and no items but those of entries
 pub record AddsUnder (sequence : ℕ) (entries : List (Key × Best)) (old new : List Item) : Type 0 where
   pub keeps : (item : Item) → Contains old item → Contains new item
   pub among : (item : Item) → Contains new item → Contains old item ⊎ ((key : Key) × (best : Best) ×
@@ -87,7 +87,7 @@ pub record AddsUnder (sequence : ℕ) (entries : List (Key × Best)) (old new : 
   pub all : (key : Key) (best : Best) → value_at slot_cmp entries key ≡ Some best → is_under sequence key best ≡ true →
       Contains new best.value
 
--- the same of a UID, of which nothing may be held
+-- the same for a UID of which nothing may be held
 abbrev pub AddsUnderAt : ℕ → Option UidState → List Item → List Item → Type 0
 AddsUnderAt sequence None old new = new ≡ old
 AddsUnderAt sequence (Some state) old new = AddsUnder sequence state.entries old new

@@ -1,4 +1,4 @@
--- A series item makes dead what is below it (our own rule): what is not later than the dead is dead, and a later series item kills no less.
+-- A series item kills what is below it (our own rule): what is no later than a dead item is dead, and a later series item kills no less.
 use Rattle.std.specs.Prelude.{◌≡◌, ℕ, ◌≤◌, ◌<◌, Bool, true, false, ◌&&◌, nat_lt}
 use Rattle.std.proofs.Common.{refl, ap, sym, ◌∙◌, arith}
 use Rattle.std.specs.Ordering.{nat_cmp, is_gt, ordering_then, MatchOrdering}
@@ -20,7 +20,7 @@ use Rattle.itip_state.specs.Held.{Best, kills, can_die}
 abbrev pub IsNoLater : Best → Best → Type 0
 IsNoLater x y = IsUpTo revision_cmp x.value y.value
 
--- a revision that is up to another has no greater effective sequence
+-- a revision that is not later than another has no greater effective sequence
 pub eff_up_to : (i j : Item) → IsUpTo revision_cmp i j → i.eff ≤ j.eff
 eff_up_to i j up = by (nat_cmp i.eff j.eff) refl
   where

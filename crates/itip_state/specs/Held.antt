@@ -1,4 +1,4 @@
--- What a state holds of each UID (our own rule): the best series item, and of each other key the best item, unless it is dead.
+-- What a state holds of each UID (our own rule): the best series item, and the best item of each other key, unless it is dead.
 use Rattle.std.specs.Prelude.{◌≡◌, ◌<◌, ◌⊎◌, ℕ, List, [], ◌∷◌, ◌++◌, Option, Some, None, Bool, true, false, cond, ◌&&◌, nat_lt, length}
 use Rattle.std.specs.List.{AllByRecursion}
 use Rattle.std.specs.List.Sorted.{IsStrictlySortedBy}
@@ -42,12 +42,12 @@ can_die (Refresh uid id attendee) = false
 abbrev pub is_below : Item → Item → Bool
 is_below series item = can_die item.key && (is_eq (slice_cmp nat_cmp (uid_of series.key) (uid_of item.key)) && nat_lt item.eff series.eff)
 
--- whether a series item, where there is one, makes an item of the key dead
+-- whether the series item, if there is one, makes an item of the key dead
 abbrev pub kills : Lift Best → Key → Item → Bool
 kills Nothing key item = false
 kills (Known series) key item = can_die key && nat_lt item.eff series.value.eff
 
--- the same of what is held at a key
+-- the same for what is held at a key
 abbrev pub is_killed : Lift Best → Key → Best → Bool
 is_killed series key held = kills series key held.value
 
@@ -57,11 +57,11 @@ pub record UidState : Type 0 where
   -- the items of the other keys
   pub entries : List (Key × Best)
 
--- a map by UID is the list of what is held of each; this is what is held of one
+-- what is held of one UID; a map by UID is the list of what is held of each
 abbrev pub at : List (List ℕ × UidState) → List ℕ → Option UidState
 at es uid = value_at (slice_cmp nat_cmp) es uid
 
--- the UIDs rise
+-- the UIDs ascend
 abbrev pub AreOrdered : List (List ℕ × UidState) → Type 0
 AreOrdered es = IsStrictlySortedBy (slice_cmp nat_cmp) (keys_of es)
 
@@ -104,7 +104,7 @@ abbrev pub IsSeriesAt : List ℕ → Lift Best → Type 0
 IsSeriesAt uid Nothing = Unit {0}
 IsSeriesAt uid (Known series) = series.value.key ≡ Series uid
 
--- another item of the UID is held at its key
+-- an item of the UID that is not a series item is held at its key
 pub record IsEntryAt (uid : List ℕ) (key : Key) (held : Best) : Type 0 where
   pub in_place : held.value.key ≡ key
   pub about : uid_of key ≡ uid
@@ -115,17 +115,17 @@ pub record IsPlaced (uid : List ℕ) (uid_state : UidState) : Type 0 where
   pub series : IsSeriesAt uid uid_state.series
   pub entries : AllByRecursion (λ e. IsEntryAt uid e.0 e.1) uid_state.entries
 
--- the keys of the other items rise, and the series item makes none of them dead
+-- the keys of the other items ascend, and the series item makes none of these dead
 pub record IsReduced (uid_state : UidState) : Type 0 where
   pub sorted : IsStrictlySortedBy slot_cmp (keys_of uid_state.entries)
   pub alive : all_alive (is_killed uid_state.series) uid_state.entries ≡ true
 
--- what is held of a UID, with both
+-- what is held of a UID is placed and reduced
 pub record IsSound (uid : List ℕ) (uid_state : UidState) : Type 0 where
   pub placed : IsPlaced uid uid_state
   pub whole : IsReduced uid_state
 
--- the same of all UIDs; and of each UID that is held there is an item
+-- the same for all UIDs, each of which has an item
 abbrev pub AreSound : List (List ℕ × UidState) → Type 0
 AreSound es = AllByRecursion (λ e. IsSound e.0 e.1 × (0 < length (uid_state_items e.1))) es
 
@@ -134,16 +134,16 @@ pub record AreHeld (es : List (List ℕ × UidState)) : Type 0 where
   pub ordered : AreOrdered es
   pub sound : AreSound es
 
--- one item alone
+-- what is held if one item alone was heard
 abbrev pub alone : Item → UidState
 alone item = cond (is_series item.key) (record { series = Known (best item); entries = [] })
     (record { series = Nothing; entries = (item.key, best item) ∷ [] })
 
--- one series item alone
+-- what is held if one series item alone was heard
 abbrev pub series_alone : Best → UidState
 series_alone series = record { series = Known series; entries = [] }
 
--- how an item is held: as the series item, or at its key
+-- an item is held, as the series item or at its key
 abbrev pub IsHeldAs : UidState → Item → Type 0
 IsHeldAs uid_state item = ((uid_state.series ≡ Known (best item)) × (is_series item.key ≡ true)) ⊎
     ((value_at slot_cmp uid_state.entries item.key ≡ Some (best item)) × (is_series item.key ≡ false))

@@ -1,4 +1,4 @@
--- Series items of UIDs of which something is held: they are heard last, once nothing can be refused any more (our own form).
+-- Series items of UIDs of which something is held: they are heard last, once nothing can fail any more (our own form).
 use Rattle.std.specs.Prelude.{◌≡◌, ◌⊎◌, true, false, List, [], ◌∷◌, ◌++◌, ℕ, Option, Some, None, is_some}
 use Rattle.std.specs.List.{AllByRecursion}
 use Rattle.itip_items.specs.KeyParts.{uid_of}
@@ -7,12 +7,12 @@ use Rattle.itip_state.specs.Held.{Best, UidState, best, is_series, at, HoldKept}
 use Rattle.itip_state.specs.Kept.{SameItems}
 use Rattle.itip_state.specs.declared.hear.Newer.{Newer}
 
--- what a series item is, where something of its UID is held
+-- a series item as the best of its key, if something of its UID is held; nothing for every other item
 abbrev pub IsNewerOf : Option UidState → Item → Option Best → Type 0
 IsNewerOf there item None = (is_series item.key ≡ false) ⊎ (there ≡ None)
 IsNewerOf there item (Some newer) = (newer ≡ best item) × (is_series item.key ≡ true) × (is_some there ≡ true)
 
--- something of its UID is held
+-- a series item, of whose UID something is held
 pub record IsAwaited (held : List (List ℕ × UidState)) (newer : Newer) : Type 0 where
   pub about : newer.uid.now ≡ uid_of newer.best.value.key
   pub series : is_series newer.best.value.key ≡ true
@@ -26,7 +26,7 @@ abbrev pub newer_items : List Newer → List Item
 newer_items [] = []
 newer_items (n ∷ ns) = n.best.value ∷ newer_items ns
 
--- an item was heard, in place, and no UID is gone
+-- an item was heard in place, and no UID is gone
 pub record IsHeard (old new : List (List ℕ × UidState)) (item : Item) : Type 0 where
   pub kept : (heard : List Item) → HoldKept heard old → HoldKept (heard ++ item ∷ []) new
   pub there : (uid : List ℕ) → is_some (at old uid) ≡ true → is_some (at new uid) ≡ true
@@ -43,7 +43,7 @@ pub record IsWaiting (old new : List (List ℕ × UidState)) (item : Item) (was 
 abbrev pub IsTakenIn : List (List ℕ × UidState) → List (List ℕ × UidState) → Item → List Newer → List Newer → Type 0
 IsTakenIn old new item was now = ((now ≡ was) × IsHeard old new item) ⊎ IsWaiting old new item was now
 
--- the same of these items, one after the other
+-- the same for these items, one after another
 pub record AreTakenIn (start held : List (List ℕ × UidState)) (items : List Item) (newer : List Newer) : Type 0 where
   pub done : List Item
   pub hold : (heard : List Item) → HoldKept heard start → HoldKept (heard ++ done) held

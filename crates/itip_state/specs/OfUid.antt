@@ -15,7 +15,7 @@ abbrev pub uid_part_code : Coded UidPart
 uid_part_code = code_by (List ℕ × List Item) (coded× (coded_list coded_ℕ) (coded_list item.the_row.coded)) (λ p. (p.uid, p.items))
     (λ p. record { uid = p.0; items = p.1 }) (λ _. refl)
 
--- the items are about the UID and in the order of their keys, and each is kept beside the others
+-- the items are about the UID, are in the order of their keys, and are a state
 pub record IsUidPart (part : UidPart) : Type 0 where
   pub about : AreOf part.uid part.items
   pub ascend : AscendKeys part.items

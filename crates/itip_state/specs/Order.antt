@@ -1,4 +1,4 @@
--- The order of states (our own rule): one is below another where hearing its items adds nothing to the other.
+-- The order of states (our own rule): one is below another if hearing its items adds nothing to the other.
 use Rattle.std.specs.Prelude.{List, ◌++◌}
 use Rattle.itip_items.specs.declared.item.Item.{Item}
 use Rattle.itip_state.specs.Kept.{AreKept}

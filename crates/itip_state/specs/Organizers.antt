@@ -1,4 +1,4 @@
--- The sequences that organizers have used (our own rule): those of REQUEST, ADD and CANCEL, also where it takes out an attendee.
+-- The sequences that organizers have used (our own rule): those of REQUEST, ADD and CANCEL, also if it removes an attendee.
 use Rattle.std.specs.Prelude.{◌≡◌, ◌≤◌, ℕ, max, List, [], ◌∷◌, Option, Some, None, Bool, true, false, if◌then◌else◌}
 use Rattle.itip_items.specs.KeyParts.{uid_of}
 use Rattle.itip_items.specs.declared.item.Item.{Item}
@@ -14,7 +14,7 @@ is_organizers kind.Cancel = true
 is_organizers kind.Reply = false
 is_organizers kind.Refresh = false
 
--- the effective sequence of an item that an organizer has sent
+-- the effective sequence of an item, if an organizer has sent it
 abbrev pub used_by : Item → Option ℕ
 used_by item = if is_organizers item.kind then Some item.eff else None
 
@@ -30,12 +30,12 @@ pub record IsUsed (heard : List Item) (uid : List ℕ) (sequence : ℕ) : Type 0
   pub of_organizer : IsOrganizers heard uid item
   pub eff_is : item.eff ≡ sequence
 
--- the greatest effective sequence of the kept items of the organizer of a UID, or that there is none
+-- the greatest effective sequence of the kept items of the organizer of a UID, or nothing if there are no such items
 abbrev pub IsLastUsed : List Item → List ℕ → Option ℕ → Type 0
 IsLastUsed heard uid None = (item : Item) → ¬ IsOrganizers heard uid item
 IsLastUsed heard uid (Some sequence) = IsUsed heard uid sequence × ((item : Item) → IsOrganizers heard uid item → item.eff ≤ sequence)
 
--- the greater of two sequences, where there are any
+-- the greater of two sequences, if there are any
 abbrev pub greater : Option ℕ → Option ℕ → Option ℕ
 greater None used = used
 greater (Some last) None = Some last

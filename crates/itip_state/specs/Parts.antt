@@ -16,16 +16,16 @@ pub record HasParts (key : Key) (parts : KeyParts) : Type 0 where
   pub instance : instance_of key ≡ option_copied parts.instance
   pub attendee : attendee_of key ≡ parts.attendee.now
 
--- a key beside the parts of another, by instance and attendee
+-- a key compared with the parts of another, by attendee and instance
 abbrev pub within_beside : Key → KeyParts → Ordering
 within_beside key parts =
-    ordering_then (option_cmp moment_cmp (instance_of key) (option_copied parts.instance))
-    (slice_cmp nat_cmp (attendee_of key) parts.attendee.now)
+    ordering_then (slice_cmp nat_cmp (attendee_of key) parts.attendee.now)
+    (option_cmp moment_cmp (instance_of key) (option_copied parts.instance))
 
--- the same by kind of key, and then by these
+-- the same by kind of key, then by these
 abbrev pub rest_beside : Key → KeyParts → Ordering
 rest_beside key parts = ordering_then (nat_cmp (rank_of key) parts.rank) (within_beside key parts)
 
--- the same by UID, and then by the rest
+-- the same, then by UID
 abbrev pub parts_cmp : Key → KeyParts → Ordering
-parts_cmp key parts = ordering_then (slice_cmp nat_cmp (uid_of key) parts.uid.now) (rest_beside key parts)
+parts_cmp key parts = ordering_then (rest_beside key parts) (slice_cmp nat_cmp (uid_of key) parts.uid.now)

@@ -1,4 +1,4 @@
--- What is held of a UID, of which something was held, once a series item was heard (our own form).
+-- What is held of a UID once a series item was heard, if something was held of it before (our own form).
 use Rattle.std.specs.Prelude.{◌≡◌, Option, Some, None}
 use Rattle.itip_state.specs.Held.{Best, UidState, series_alone}
 use Rattle.itip_state.specs.Joined.{IsJoinedAt}

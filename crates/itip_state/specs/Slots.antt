@@ -1,5 +1,6 @@
--- The order in which a state holds its items: by UID, then by the rest of the key, the series item first (our own
--- rule). Of items that are held under one UID, the rest is compared first.
+-- The order in which a state holds its items: by UID, then by the rest of the key, the series item first (our own rule). Among items held
+-- under one UID the rest is compared first, and in it the attendee before the instance: the instance and the UID, which the answers of one
+-- to-do of a message share, however long, are compared last.
 use Rattle.std.specs.Prelude.{◌≡◌}
 use Rattle.std.proofs.Common.{refl}
 use Rattle.std.specs.declared.cmp.Ordering.{Ordering}
@@ -18,24 +19,24 @@ use Rattle.itip_items.specs.declared.key.Key.{Key}
 use Rattle.itip_items.proofs.Keys.{from_parts}
 use Rattle.itip_join.specs.Ranked.{exact_option}
 
--- by kind of key, instance and attendee
+-- by kind of key, attendee and instance
 abbrev pub rest_cmp : Key → Key → Ordering
 rest_cmp a b =
     ordering_then (nat_cmp (rank_of a) (rank_of b))
-    (ordering_then (option_cmp moment_cmp (instance_of a) (instance_of b)) (slice_cmp nat_cmp (attendee_of a) (attendee_of b)))
+    (ordering_then (slice_cmp nat_cmp (attendee_of a) (attendee_of b)) (option_cmp moment_cmp (instance_of a) (instance_of b)))
 
 -- by UID, then by the rest
 abbrev pub key_cmp : Key → Key → Ordering
 key_cmp a b = ordering_then (slice_cmp nat_cmp (uid_of a) (uid_of b)) (rest_cmp a b)
 
--- by the rest, then by UID: of keys of one UID the same order
+-- by the rest, then by UID: the same order for keys of one UID
 abbrev pub slot_cmp : Key → Key → Ordering
 slot_cmp a b = ordering_then (rest_cmp a b) (slice_cmp nat_cmp (uid_of a) (uid_of b))
 
 rest_total : IsTotalOrder rest_cmp
 rest_total =
     then_total (on_total rank_of nat_cmp_total)
-    (then_total (on_total instance_of (options_total moment_total)) (on_total attendee_of nat_list_cmp_total))
+    (then_total (on_total attendee_of nat_list_cmp_total) (on_total instance_of (options_total moment_total)))
 
 pub key_total : IsTotalOrder key_cmp
 key_total = then_total (on_total uid_of nat_list_cmp_total) rest_total
@@ -43,7 +44,7 @@ key_total = then_total (on_total uid_of nat_list_cmp_total) rest_total
 pub slot_total : IsTotalOrder slot_cmp
 slot_total = then_total rest_total (on_total uid_of nat_list_cmp_total)
 
--- where one order and then another answer Equal, each does
+-- where one order followed by another says Equal, each of them does
 pub then_equal : (r s : Ordering) → ordering_then r s ≡ Equal → (r ≡ Equal) × (s ≡ Equal)
 then_equal Less s e = cc
 then_equal Equal s e = (refl, e)
@@ -52,9 +53,9 @@ then_equal Greater s e = cc
 from_rest : (a b : Key) → slice_cmp nat_cmp (uid_of a) (uid_of b) ≡ Equal → rest_cmp a b ≡ Equal → a ≡ b
 from_rest a b uid rest =
     let first = then_equal (nat_cmp (rank_of a) (rank_of b)) _ rest in
-    let second = then_equal (option_cmp moment_cmp (instance_of a) (instance_of b)) _ first.1 in
-    from_parts a b (exact_bytes _ _ uid) (exact_unsigned _ _ first.0) (exact_option moment_cmp moment_equal _ _ second.0)
-    (exact_bytes _ _ second.1)
+    let second = then_equal (slice_cmp nat_cmp (attendee_of a) (attendee_of b)) _ first.1 in
+    from_parts a b (exact_bytes _ _ uid) (exact_unsigned _ _ first.0) (exact_option moment_cmp moment_equal _ _ second.1)
+    (exact_bytes _ _ second.0)
 
 pub key_exact : CmpEqualImpliesEq key_cmp
 key_exact a b e = let both = then_equal (slice_cmp nat_cmp (uid_of a) (uid_of b)) (rest_cmp a b) e in from_rest a b both.0 both.1

@@ -1,5 +1,5 @@
--- What adds nothing (our own form): an item no later than one of its key in the set, and an item that is dead beside
--- the set. All else is news.
+-- What adds nothing to a set (our own form): an item no later than one of its key in the set, and an item that is dead beside the set.
+-- Everything else is news.
 use Rattle.std.specs.Prelude.{◌≡◌, List, Some, ◌⊎◌, true, false}
 use Rattle.std.specs.List.{Contains}
 use Rattle.itip_items.specs.Later.{IsLater}
@@ -10,7 +10,7 @@ use Rattle.itip_state.specs.Slots.{slot_cmp}
 use Rattle.itip_state.specs.Kept.{IsDead}
 use Rattle.itip_state.specs.Held.{Best, UidState, is_series}
 
--- an item of the set has the key of this item, and this item is not later than it
+-- an item of the set has the key of this item, and is no earlier than it
 pub record IsTold (set : List Item) (item : Item) : Type 0 where
   pub teller : Item
   pub there : Contains set teller
@@ -21,7 +21,7 @@ pub record IsTold (set : List Item) (item : Item) : Type 0 where
 abbrev pub IsOutdone : List Item → Item → Type 0
 IsOutdone set item = IsTold set item ⊎ IsDead set item
 
--- those of the items that the set does not outdo, in any order, perhaps more than once
+-- the items that the set does not outdo, in any order, perhaps more than once
 pub record AreNews (set items news : List Item) : Type 0 where
   pub among : (item : Item) → Contains news item → Contains items item
   pub new : (item : Item) → Contains news item → ¬ IsOutdone set item
@@ -34,6 +34,6 @@ pub record HoldsNoEarlier (uid_state : UidState) (item : Item) : Type 0 where
       ((is_series item.key ≡ false) × (value_at slot_cmp uid_state.entries item.key ≡ Some held))
   pub not_later : ¬ IsLater item held.value
 
--- the same of all these items: hearing them changes nothing
+-- the set outdoes all these items: hearing them changes nothing
 abbrev pub AreOutdone : List Item → List Item → Type 0
 AreOutdone set items = (item : Item) → Contains items item → IsOutdone set item

@@ -1,4 +1,4 @@
--- What the code holds, seen as what it holds of each UID (our own form).
+-- What the code holds, as contracts see it: what is held of each UID (our own form).
 use Rattle.std.specs.Prelude.{ℕ, List, [], ◌∷◌}
 use Rattle.std.specs.declared.cmp.Ord as ord
 use Rattle.std.specs.declared.cmp.PartialEq as eq

@@ -1,4 +1,4 @@
-//! Which items of a UID a newer series item makes dead: those, and no look at the others.
+//! Which items of a UID a newer series item makes dead, and a set by which these are found without looking at all others.
 ghost use Rattle.std.specs.Prelude.{◌≡◌, ◌≤◌, ◌⊎◌, ◌++◌, ℕ, Some, None, true, option_map, IfSome, IfNone, IfOk, OnOk, IsTrue};
 ghost use Rattle.std.specs.Option.{option_copied};
 ghost use Rattle.std.specs.List.{Contains, AllByRecursion};
@@ -19,14 +19,14 @@ use itip_join::{Exact, Keyed, Lift, UnderGuard};
 use std::alloc::Global;
 use std::collections::BTreeSet;
 
-/// The slots of items that can die, the least effective sequence first. A slot stands under the sequence that its item had
-/// when it was put in, which is not above that of a later revision.
+/// The slots of items that can die, the least effective sequence first. A slot is filed under the sequence that its item had when the slot
+/// was put in, which is not above that of a later revision.
 pub(crate) type Due = BTreeSet<(u32, Slot)>;
 
-/// As many items of a UID are looked at one by one.
+/// Up to this many items of a UID, besides the series item, get no set: they are looked at one by one.
 const FEW: usize = 32;
 
-/// Puts in the slot of an item of this effective sequence, if the item can die.
+/// Adds the slot of an item with this effective sequence, if the item can die.
 pub(crate) fn put(due: &mut Due, slot: &Slot, sequence: u32) -> Result<(), NoMemory>
     ensures put { OnOk result (key_can_die slot.now ≡ true → has due.new (sequence, slot.now) ≡ true) }
     ensures keeps { (pair : ℕ × Key) → has due.old pair ≡ true → has due.new pair ≡ true }
@@ -37,9 +37,9 @@ pub(crate) fn put(due: &mut Due, slot: &Slot, sequence: u32) -> Result<(), NoMem
     Ok(())
 }
 
-/// Takes out those of these items that the series item kills.
+/// Removes those of these items that the series item kills.
 ///
-/// What is given can be asked the next time. It is made where the items are many. Without memory for it all items are looked at.
+/// Returns the set to pass in the next time. It is made if there are many items; without the memory for it all items are looked at.
 pub(crate) fn drop_dead(
     alloc: Global,
     entries: &mut Keyed<Slot, Best>,
@@ -60,7 +60,7 @@ pub(crate) fn drop_dead(
     None
 }
 
-/// The set that there is, or a new one where there are many items and the memory for it.
+/// The set that there is, or a new one if there are many items and the memory for it.
 fn begun(alloc: Global, entries: &Keyed<Slot, Best>, due: Option<Due>) -> Option<Due>
     requires { AreDueIn due entries.now.map }
     ensures { AreDueIn result entries.now.map }
@@ -89,7 +89,7 @@ fn all_due(alloc: Global, entries: &Keyed<Slot, Best>) -> Result<Due, NoMemory>
     Ok(due)
 }
 
-/// Looks at the items of the set in turn, as long as they can be dead. `None` where memory is refused: then some of the dead are left.
+/// Looks at the items of the set in turn, as long as they can be dead. `None` if an allocation fails: then some of the dead may be left.
 fn drop_due(entries: &mut Keyed<Slot, Best>, due: Due, series: &Lift<Best>) -> Option<Due>
     requires { AreDue due entries.old.map }
     ensures due { IfSome result (λ due. AreDue due entries.new.map) }
@@ -98,7 +98,7 @@ fn drop_due(entries: &mut Keyed<Slot, Best>, due: Due, series: &Lift<Best>) -> O
 {
     let mut due = due;
     let below = sequence_of(series);
-    // It ends where no sequence is below that of the series item.
+    // It ends when no sequence is below that of the series item.
     for _ in 0..usize::MAX {
         let Some((_, slot)) = pop_below(&mut due, below) else {
             return Some(due);
@@ -110,7 +110,7 @@ fn drop_due(entries: &mut Keyed<Slot, Best>, due: Due, series: &Lift<Best>) -> O
     None
 }
 
-/// The effective sequence of a series item, where there is one, else 0.
+/// The effective sequence of the series item, or 0 if there is none.
 fn sequence_of(series: &Lift<Best>) -> u32
     ensures { result ≡ sequence_of series.now }
 {
@@ -120,7 +120,7 @@ fn sequence_of(series: &Lift<Best>) -> u32
     }
 }
 
-/// Takes the first slot out of the set, if its sequence is below this one.
+/// Removes and returns the first slot of the set, if its sequence is below this one.
 fn pop_below(due: &mut Due, below: u32) -> Option<(u32, Slot)>
     ensures popped { IfSome result (λ popped. (pair : ℕ × Key)
         → has due.old pair ≡ true → (pair ≡ popped) ⊎ (has due.new pair ≡ true)) }
@@ -134,8 +134,8 @@ fn pop_below(due: &mut Due, below: u32) -> Option<(u32, Slot)>
     due.pop_first()
 }
 
-/// Takes out the item of a slot that was in the set, if the series item kills it. Else the slot is put in again under the sequence
-/// of the item, if the memory for that is there.
+/// Removes the item of a slot that was in the set, if the series item kills it. Otherwise the slot is put back under the sequence of the
+/// item. Returns false if the memory for that is missing.
 fn settle(entries: &mut Keyed<Slot, Best>, due: &mut Due, slot: Slot, series: &Lift<Best>) -> bool
     requires { (key : Key) (best : HeldBest) → value_at slot_cmp entries.old.map key ≡ Some best → key_can_die key ≡ true
         → (key ≡ slot) ⊎ IsDue due.old key best }
@@ -160,7 +160,7 @@ fn drop_each(entries: &mut Keyed<Slot, Best>, series: &Lift<Best>)
     entries.drop_dead(series);
 }
 
-/// Adds those of these items of one UID that a series item of this effective sequence makes dead.
+/// Appends those of these items of one UID that a series item with this effective sequence makes dead.
 pub(crate) fn share_under(
     entries: &Keyed<Slot, Best>,
     due: Option<&Due>,
@@ -192,7 +192,7 @@ fn share_each(
     Ok(())
 }
 
-/// The same by the set, whose other items are not looked at.
+/// Like `share_each`, but by the set: it stops at the first sequence that is not below this one.
 fn share_due(
     entries: &Keyed<Slot, Best>,
     due: &Due,
@@ -215,7 +215,7 @@ fn share_due(
     Ok(())
 }
 
-/// Adds the item at this slot, if a series item of this effective sequence makes it dead.
+/// Appends the item at this slot, if a series item with this effective sequence makes it dead.
 fn share_if_under(
     slot: &Slot,
     best: &Best,

@@ -1,7 +1,7 @@
-//! How a map by UID hears items: in place, with what takes it back where memory is refused on the way.
+//! How a map by UID hears items: in place, and with notes by which this is undone if an allocation fails on the way.
 //!
-//! A series item of a UID of which something is held may make others dead, which could not be put back without memory. So of
-//! several items those are heard last, once nothing can be refused any more.
+//! A series item of a UID of which something is held may make others dead, which could not be put back without memory. So among several
+//! items those are heard last, once nothing can fail any more.
 ghost use Rattle.std.specs.Prelude.{◌≡◌, ◌↔◌, ◌++◌, ◌∷◌, ◌⊎◌, [], ℕ, List, Some, None, false, map, IsTrue, IfOk, OnOk, OnErr, IsOk};
 ghost use Rattle.std.specs.Ordering.{nat_cmp, is_eq};
 ghost use Rattle.std.specs.Cmp.Lexicographic.{slice_cmp};
@@ -29,11 +29,11 @@ use std::alloc::Global;
 enum Before<'a> {
     /// Nothing was held of the UID.
     Absent,
-    /// At the place of the item this, or nothing, and at least one item of the UID. The item is no series item, so that all else stays.
+    /// This, or nothing, was held at the place of the item, and something of its UID. The item is not a series item, so all else stays.
     Entry(&'a Slot, Option<Best>),
 }
 
-/// An item that was heard, or whose hearing was refused, and what was held before.
+/// An item that was heard, or could not be for lack of memory, and what was held before.
 #[derive(Drop)]
 struct Hearing<'a> {
     item: &'a SharedItem,
@@ -47,7 +47,7 @@ struct Newer<'a> {
     best: Best,
 }
 
-/// Joins in what is kept of one item, in place. A refusal (out of memory) changes nothing.
+/// Joins in what is kept of one item, in place. If an allocation fails, nothing changes.
 pub(crate) fn hear(held: &mut Held, item: &SharedItem) -> Result<(), NoMemory>
     ensures kept { OnOk result ((heard : List Item) → HoldKept heard held.old → HoldKept (heard ++ item.now ∷ []) held.new) }
     ensures err { OnErr result (held.new ≡ held.old) }
@@ -61,7 +61,7 @@ pub(crate) fn hear(held: &mut Held, item: &SharedItem) -> Result<(), NoMemory>
     }
 }
 
-/// What a series item is, where something of its UID is held.
+/// The revision of a series item, if something of its UID is held; `None` for every other item.
 fn newer_of(held: &Held, item: &SharedItem) -> Result<Option<Best>, NoMemory>
     ensures { IfOk result (IsNewerOf (at held.now (uid_of item.now.key)) item.now) }
 {
@@ -76,8 +76,7 @@ fn newer_of(held: &Held, item: &SharedItem) -> Result<Option<Best>, NoMemory>
     }
 }
 
-/// Joins in what is kept of these items, in place. A refusal (out of memory) changes nothing. Where none of them is news, the answer is
-/// Ok.
+/// Joins in what is kept of these items, in place. If an allocation fails, nothing changes. If none of them is news, it succeeds.
 pub(crate) fn hear_all(
     held: &mut Held,
     alloc: Global,
@@ -91,7 +90,7 @@ pub(crate) fn hear_all(
     match hear_each(held, alloc, items) {
         Ok(()) => Ok(()),
         Err(refused) => {
-            // Memory may have been asked for though none of the items is news.
+            // An allocation may have failed though none of the items is news.
             if outdoes_all(held, items) {
                 return Ok(());
             }
@@ -100,8 +99,8 @@ pub(crate) fn hear_all(
     }
 }
 
-/// Joins in what is kept of these items, in place. Where memory is refused, what was changed is changed back. A single
-/// item needs no note: its hearing is all or nothing.
+/// Joins in what is kept of these items, in place. If an allocation fails, what was changed is changed back. A single item needs no note:
+/// hearing it is all or nothing.
 fn hear_each(held: &mut Held, alloc: Global, items: &[&SharedItem]) -> Result<(), NoMemory>
     ensures ok { OnOk result ((heard : List Item)
         → HoldKept heard held.old → HoldKept (heard ++ map (λ item. item.now) items.now) held.new) }
@@ -122,8 +121,8 @@ fn hear_each(held: &mut Held, alloc: Global, items: &[&SharedItem]) -> Result<()
     Ok(())
 }
 
-/// Joins in what is kept of one item, and notes what takes that back, or puts it to those that are heard last. After a refusal, too,
-/// the notes take everything back.
+/// Joins in what is kept of one item and notes how to undo that, or adds the item to those that are heard last. Even if an allocation
+/// fails, the notes undo everything.
 fn hear_noted<'a>(
     held: &mut Held,
     item: &'a SharedItem,
@@ -144,7 +143,7 @@ fn hear_noted<'a>(
     held.join_one(item)
 }
 
-/// What takes back the hearing of an item, which is no series item where something is held of its UID.
+/// The note by which the hearing of an item is undone. If something is held of its UID, it must not be a series item.
 fn note<'a>(held: &Held, item: &'a SharedItem) -> Result<Before<'a>, NoMemory>
     requires { (is_series item.now.key ≡ false) ⊎ (at held.now (uid_of item.now.key) ≡ None) }
     ensures noted { IfOk result (λ before. IsNoted before item.now (at held.now (uid_of item.now.key))) }
@@ -172,7 +171,7 @@ fn raise_all(held: &mut Held, newer: Vec<Newer<'_>>)
     }
 }
 
-/// Takes changes back, the last first. It takes no memory.
+/// Undoes changes, the last first. Allocates nothing.
 fn take_back(held: &mut Held, alloc: Global, changes: Vec<Hearing<'_>>)
     requires { (start : List (List ℕ × UidState)) × AreUndone changes.items held.old start }
     ensures { (start : List (List ℕ × UidState)) → AreUndone changes.entry.items held.old start → held.new ≡ start }
@@ -183,7 +182,7 @@ fn take_back(held: &mut Held, alloc: Global, changes: Vec<Hearing<'_>>)
     }
 }
 
-/// Takes one change back. It takes no memory.
+/// Undoes one change. Allocates nothing.
 fn undo(held: &mut Held, alloc: Global, change: Hearing<'_>)
     requires { (old : List (List ℕ × UidState)) × IsUndone change held.old old }
     ensures { (old : List (List ℕ × UidState)) → IsUndone change.entry held.old old → held.new ≡ old }
@@ -193,7 +192,7 @@ fn undo(held: &mut Held, alloc: Global, change: Hearing<'_>)
     match before {
         Before::Absent => held.remove(uid),
         Before::Entry(slot, best) => {
-            // It is taken out for this, so that it is not copied; an empty one keeps its place.
+            // The value is taken out for this, so that it is not copied; an empty one keeps its place.
             if let Some(series) = held.replace(uid, of_nothing(alloc)) {
                 held.replace(uid, put_back(series, slot, best));
             }

@@ -26,12 +26,12 @@ use std::alloc::Global;
 use std::collections::BTreeMap;
 use std::marker::Model;
 
-/// A map by UID. It is seen as what it holds of each UID: the series item, and the other items by their keys.
+/// A map by UID. Contracts see it as what it holds of each UID: the series item, and the other items by their keys.
 #[derive(Debug, Drop)]
 pub(crate) struct Held {
     alloc: Global,
     map: Keyed<Uid, HeldOfUid>,
-    /// Of UIDs with many items, those that can die.
+    /// For UIDs with many items, the slots of those that can die.
     due: BTreeMap<Uid, Due>,
 }
 
@@ -56,7 +56,7 @@ impl Model for Held {
 }
 
 impl Held {
-    /// Nothing held. It takes no memory.
+    /// A map that holds nothing. Allocates nothing.
     pub(crate) fn empty(alloc: Global) -> Held
         ensures { result ≡ [] }
     {
@@ -67,7 +67,7 @@ impl Held {
         }
     }
 
-    /// What is held of a UID.
+    /// What is held of a UID, if anything.
     pub(crate) fn get(&self, uid: &Uid) -> Option<&HeldOfUid>
         ensures found { option_map uid_state (option_copied result) ≡ at self.now uid.now }
         ensures ordered { AreOrdered self.now }
@@ -75,7 +75,7 @@ impl Held {
         self.map.get(uid)
     }
 
-    /// Joins in what is held where this item alone was heard, in place. A refusal (out of memory) changes nothing.
+    /// Joins in what is held if this item alone was heard, in place. If an allocation fails, nothing changes.
     pub(crate) fn join_one(&mut self, item: &SharedItem) -> Result<(), NoMemory>
         ensures joined { OnOk result (IsJoinedAt (at self.old (uid_of item.now.key)) (Some (alone item.now))
             (at self.new (uid_of item.now.key))) }
@@ -88,15 +88,15 @@ impl Held {
         self.map.join_one(item.uid(), &one)
     }
 
-    /// Hears a series item of a UID of which something is held; where nothing is, nothing changes. No memory is needed, and what
-    /// the item doesn't kill is not looked at.
+    /// Hears a series item of a UID of which something is held; if nothing is, nothing changes. It needs no memory. With a set for the UID
+    /// in `due`, and the memory to update it, only items that may be dead are looked at.
     pub(crate) fn raise(&mut self, uid: &Uid, best: Best)
         ensures raised { IsRaisedAt (at self.old uid.now) best (at self.new uid.now) }
         ensures others { (q : List ℕ) → is_eq (slice_cmp nat_cmp uid.now q) ≡ false → at self.new q ≡ at self.old q }
         ensures ordered { AreOrdered self.new }
     {
         let due = self.due.remove(uid);
-        // It is taken out for this, so that it is not copied; an empty one keeps its place.
+        // The value is taken out for this, so that it is not copied; an empty one keeps its place.
         let Some(held) = self.map.replace(uid, of_nothing(self.alloc)) else {
             return;
         };
@@ -105,7 +105,7 @@ impl Held {
         self.map.replace(uid, held);
     }
 
-    /// Takes out what is held of a UID. It takes no memory.
+    /// Removes what is held of a UID. Allocates nothing.
     pub(crate) fn remove(&mut self, uid: &Uid)
         ensures without { (q : List ℕ) → at self.new q ≡ cond (is_eq (slice_cmp nat_cmp uid.now q)) None (at self.old q) }
         ensures ordered { AreOrdered self.new }
@@ -113,7 +113,7 @@ impl Held {
         self.map.remove(uid);
     }
 
-    /// Replaces what is held of a UID by `series`; returns the old one. Where nothing is held of it, nothing changes. It takes no memory.
+    /// Replaces what is held of a UID with `series`, and returns the old value; changes nothing if nothing is held. Allocates nothing.
     pub(crate) fn replace(&mut self, uid: &Uid, series: HeldOfUid) -> Option<HeldOfUid>
         ensures before { option_map uid_state result ≡ at self.old uid.now }
         ensures with { (q : List ℕ) → at self.new q
@@ -124,9 +124,9 @@ impl Held {
         self.map.replace(uid, series)
     }
 
-    /// Joins another map in, UID by UID. A refusal (out of memory) changes nothing.
+    /// Joins another map in, UID by UID. If an allocation fails, nothing changes.
     ///
-    /// Where the other map tells nothing new, no memory is asked for, and the answer is Ok.
+    /// If the other map tells nothing new, it allocates nothing and succeeds.
     pub(crate) fn join(&mut self, other: &Held) -> Result<(), NoMemory>
         ensures joined { OnOk result ((q : List ℕ) → IsJoinedAt (at self.old q) (at other.now q) (at self.new q)) }
         ensures ordered { AreOrdered self.new }
@@ -144,7 +144,7 @@ impl Held {
         self.map.below(&other.map)
     }
 
-    /// How many UIDs there are.
+    /// The number of UIDs.
     pub(crate) fn len(&self) -> usize
         ensures { result ≡ length self.now }
     {
@@ -175,7 +175,7 @@ impl Held {
         Ok(items)
     }
 
-    /// All items, shared with this map. Of an empty map it takes no memory.
+    /// All items, shared with this map. Allocates nothing if the map is empty.
     pub(crate) fn shared_items(&self, alloc: Global) -> Result<Vec<SharedItem>, NoMemory>
         requires { AreSound self.now }
         ensures items { IfOk result (λ items. items.items ≡ items_of self.now) }
@@ -188,7 +188,8 @@ impl Held {
         Ok(items)
     }
 
-    /// Adds the items of a UID that a series item of this effective sequence makes dead. No other is looked at where they are many.
+    /// Appends the items of a UID that a series item with this effective sequence makes dead. If there is a set for the UID, the others
+    /// are not looked at.
     pub(crate) fn share_under(
         &self,
         uid: &Uid,
@@ -204,7 +205,7 @@ impl Held {
         }
     }
 
-    /// The number of items; `usize::MAX` where there are more. Each UID is looked at once.
+    /// The number of items, or `usize::MAX` if there are more. Each UID is looked at once.
     pub(crate) fn count(&self) -> usize
         ensures { result ≡ min (length (items_of self.now)) usize.MAX }
     {

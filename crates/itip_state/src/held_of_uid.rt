@@ -23,8 +23,8 @@ use itip_items::{Item, Key};
 use itip_join::{Exact, Greatest, Guard, Guarded, Join, Keyed, Lift};
 use std::alloc::Global;
 
-/// The kept items of one UID: the best series item, or none, and under it the best items of the other keys. It makes
-/// those dead that are below it.
+/// The kept items of one UID: the best series item, or none, and under it the best items of the other keys. The series item makes those
+/// dead that are below it.
 pub(crate) type HeldOfUid = Guarded<Lift<Best>, Keyed<Slot, Best>>;
 
 /// A series item kills what can die and is below it.
@@ -50,14 +50,14 @@ pub(crate) fn can_die(key: &Key) -> bool
     }
 }
 
-/// Whether `item` is dead where `series` is the best series item.
+/// Whether `item` is dead if `series` is the best series item.
 pub(crate) fn is_below(series: &Item, item: &Item) -> bool
     ensures { result ≡ item_is_below series.now item.now }
 {
     can_die(&item.key) && series.key.uid().cmp(item.key.uid()).is_eq() && item.eff < series.eff
 }
 
-/// Whether a series item, where there is one, makes an item of this key dead.
+/// Whether the series item, if there is one, makes an item of this key dead.
 pub(crate) fn is_dead_below(series: &Lift<Best>, key: &Key, item: &Item) -> bool
     ensures { result ≡ series_kills series.now key.now item.now }
 {
@@ -67,7 +67,7 @@ pub(crate) fn is_dead_below(series: &Lift<Best>, key: &Key, item: &Item) -> bool
     }
 }
 
-/// No item.
+/// No items. Allocates nothing.
 pub(crate) fn of_nothing(alloc: Global) -> HeldOfUid
     ensures series { result.guard ≡ Nothing }
     ensures entries { result.entries.map ≡ [] }
@@ -78,7 +78,7 @@ pub(crate) fn of_nothing(alloc: Global) -> HeldOfUid
     }
 }
 
-/// What is held where this item alone was heard.
+/// What is held if this item alone was heard.
 pub(crate) fn of_item(alloc: Global, item: &SharedItem) -> Result<HeldOfUid, NoMemory>
     ensures { IfOk result (λ one. uid_state one ≡ alone item.now) }
 {
@@ -97,10 +97,10 @@ pub(crate) fn of_item(alloc: Global, item: &SharedItem) -> Result<HeldOfUid, NoM
     }
 }
 
-/// What is held of one UID once a series item was heard: it is the series item, unless that of the UID is no earlier, and what it
-/// kills is gone. `due` is the set of those that can die, where there is one, before it and after it.
+/// What is held of one UID once a series item was heard: `best` is now its series item, unless the one it has is no earlier, and what
+/// `best` kills is gone. `due` is the set of those that can die, if there is one; returned with the result is the set for that.
 ///
-/// No memory is needed; what is asked for in vain makes it slower.
+/// It needs no memory, but is slower if an allocation fails.
 pub(crate) fn raised(
     alloc: Global,
     held: HeldOfUid,
@@ -148,7 +148,7 @@ fn is_same(best: &Best, item: &SharedItem) -> bool
     best.value == *item.revision()
 }
 
-/// Adds what is held at the key of an item, if anything is.
+/// Appends what is held at the key of an item, if anything is.
 pub(crate) fn share_at(
     held: &HeldOfUid,
     item: &SharedItem,
@@ -172,7 +172,7 @@ pub(crate) fn share_at(
     Ok(())
 }
 
-/// Adds the items of one UID, the series item first.
+/// Appends the items of one UID, the series item first.
 pub(crate) fn share(series: &HeldOfUid, items: &mut Vec<SharedItem>) -> Result<(), NoMemory>
     requires { (uid : List ℕ) × IsPlaced uid (uid_state series.now) }
     ensures { OnOk result (items.new.items ≡ items.old.items ++ uid_state_items (uid_state series.now)) }
@@ -186,7 +186,7 @@ pub(crate) fn share(series: &HeldOfUid, items: &mut Vec<SharedItem>) -> Result<(
     Ok(())
 }
 
-/// What is held of one UID, with what stood at a key put back.
+/// What is held of one UID, with what was at a key before put back.
 pub(crate) fn put_back(series: HeldOfUid, slot: &Slot, before: Option<Best>) -> HeldOfUid
     requires { (old : UidState) × IsBackAt slot.now before (uid_state series) old }
     ensures { (old : UidState) → IsBackAt slot.now before (uid_state series) old
@@ -197,7 +197,7 @@ pub(crate) fn put_back(series: HeldOfUid, slot: &Slot, before: Option<Best>) -> 
     Guarded { guard, entries }
 }
 
-/// Puts another entry in the place of one, or takes it out. Where none stands, nothing changes.
+/// Replaces the entry at a slot, or removes it if `entry` is `None`. If there is no entry at the slot, nothing changes.
 fn put_entry(entries: &mut Keyed<Slot, Best>, slot: &Slot, entry: Option<Best>)
     ensures { (q : Key) → value_at slot_cmp entries.new.map q
         ≡ cond (is_eq (slot_cmp slot.now q)) (in_place_of (value_at slot_cmp entries.old.map slot.now) entry) (value_at slot_cmp entries.old.map q) }

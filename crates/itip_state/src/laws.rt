@@ -1,4 +1,4 @@
-//! The laws of what is kept, of every finite set of items. They hold with no code: each function is empty.
+//! The laws of what is kept, for every finite set of items. Each function is empty: its contract is the law.
 ghost use Rattle.std.specs.Prelude.{◌≡◌, List, ◌++◌, ℕ, ◌↔◌};
 ghost use Rattle.itip_items.specs.declared.item.Item.{Item};
 ghost use Rattle.itip_state.specs.Kept.{AreKept, ArePart, SameItems, IsKept};
@@ -16,7 +16,7 @@ pub fn uid_by_uid()
         AreKept kept_part part → AreKept kept_whole whole → ArePart uid kept_part kept_whole }
 {}
 
-/// Hearing nothing new is a partial order on states (our own rule).
+/// One state is below another if hearing its items adds nothing to the other. This is a partial order on states (our own rule).
 pub fn order_of_states()
     ensures reflexive { (x : List Item) → IsState x → IsBelow x x }
     ensures transitive { (x y z : List Item) → IsState x → IsState y → IsState z → IsBelow x y → IsBelow y z → IsBelow x z }

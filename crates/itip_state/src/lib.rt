@@ -1,7 +1,7 @@
 //! The kept items of what was heard.
 //!
-//! Of each key the best item is kept, and the dead are left out (our own rule). A state is what is kept of a set
-//! of items; merging two states gives their least upper bound.
+//! Of each key the best item is kept, unless it is dead (our own rule). A state is what is kept of a set of items; merging two states
+//! gives their least upper bound.
 #![tactic(auto)]
 
 mod due;

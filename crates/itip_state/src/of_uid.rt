@@ -13,8 +13,8 @@ use itip_moment::Moment;
 use itip_todo::Uid;
 use std::marker::Model;
 
-/// The kept items of one UID in the order of their keys: the series item, then instances and then ranges, each by
-/// recurrence id, then answers and then refresh requests, each by instance and attendee.
+/// The kept items of one UID in the order of their keys: the series item, then instances and then ranges, each by recurrence id, then
+/// answers and then refresh requests, each by attendee and instance.
 #[derive(Debug, Drop)]
 pub struct ItemsOfUid<'a> {
     uid: &'a Uid,
@@ -58,7 +58,7 @@ impl<'a> ItemsOfUid<'a> {
         self.items.as_slice()
     }
 
-    /// The item of a key, or `None` where none is kept. It takes no memory.
+    /// The item of a key, or `None` if none is kept. Allocates nothing.
     pub fn best(&self, key: &Key) -> Option<&'a Item>
         ensures { IsBestOf self.now.items key.now (option_copied result) }
     {
@@ -76,11 +76,11 @@ impl<'a> ItemsOfUid<'a> {
         }
     }
 
-    /// The series item, or `None` where none is kept. It takes no memory.
+    /// The series item, or `None` if none is kept. Allocates nothing.
     pub fn series(&self) -> Option<&'a Item>
         ensures { IsBestOf self.now.items (key.Series self.now.uid) (option_copied result) }
     {
-        // It stands before all others.
+        // It comes before all others.
         let [first, ..] = self.items.as_slice() else {
             return None;
         };
@@ -90,15 +90,15 @@ impl<'a> ItemsOfUid<'a> {
         }
     }
 
-    /// The instance item of a moment, or `None` where none is kept. It takes no memory.
+    /// The instance item of a moment, or `None` if none is kept. Allocates nothing.
     pub fn instance(&self, at: &Moment) -> Option<&'a Item>
         ensures { IsBestOf self.now.items (key.Instance self.now.uid at.now) (option_copied result) }
     {
         self.found(&KeyParts::of_instance(self.uid, at))
     }
 
-    /// The answer of an attendee, by its key (`itip_todo::attendee_key`), to the instance of a moment, or to the to-do
-    /// as a whole; `None` where none is kept. It takes no memory.
+    /// The answer of an attendee, by its key (`itip_todo::attendee_key`), to the instance of a moment, or to the to-do as a whole if `at`
+    /// is `None`. Returns `None` if none is kept. Allocates nothing.
     pub fn answer(&self, at: Option<&Moment>, attendee: &str) -> Option<&'a Item>
         ensures { IsBestOf self.now.items (key.Answer self.now.uid (option_copied at.entry) attendee.now) (option_copied result) }
     {

@@ -8,7 +8,7 @@ use crate::held_of_uid::HeldOfUid;
 use itip_items::{Item, Kind};
 use itip_join::Lift;
 
-/// The effective sequence of an item that an organizer has sent.
+/// The effective sequence of an item, if an organizer has sent it.
 fn used_by(item: &Item) -> Option<u32>
     ensures { result ≡ used_by item.now }
 {
@@ -18,7 +18,7 @@ fn used_by(item: &Item) -> Option<u32>
     }
 }
 
-/// The greater of two sequences, where there are any.
+/// The greater of two sequences, if there are any.
 fn greater(last: Option<u32>, used: Option<u32>) -> Option<u32>
     ensures { result ≡ greater last used }
 {
@@ -29,7 +29,7 @@ fn greater(last: Option<u32>, used: Option<u32>) -> Option<u32>
     }
 }
 
-/// The greatest effective sequence of the items of one UID that its organizer has sent.
+/// The greatest effective sequence of the items of one UID that its organizer has sent, if there are any.
 pub(crate) fn greatest(series: &HeldOfUid) -> Option<u32>
     ensures { result ≡ greatest None (uid_state_items (uid_state series.now)) }
 {

@@ -1,4 +1,4 @@
-//! The parts of a key, by which an item is looked up with no key made for it.
+//! The parts of a key, by which an item is looked up without making a key.
 ghost use Rattle.std.specs.Prelude.{◌≡◌};
 ghost use Rattle.std.specs.Option.{option_copied};
 ghost use Rattle.itip_items.specs.declared.key.Key.TheVariants as key;
@@ -9,7 +9,7 @@ use itip_moment::Moment;
 use itip_todo::Uid;
 use std::cmp::Ordering;
 
-/// The parts of a key. A key is made where an item is heard, and a look-up needs none.
+/// The parts of a key, borrowed, so that a look-up needs no key of its own.
 #[derive(Clone, Copy, Drop)]
 pub(crate) struct KeyParts<'k> {
     uid: &'k Uid,
@@ -20,7 +20,7 @@ pub(crate) struct KeyParts<'k> {
 }
 
 impl<'k> KeyParts<'k> {
-    /// Those of this key.
+    /// The parts of this key.
     pub(crate) fn of(key: &'k Key) -> KeyParts<'k>
         ensures { HasParts key.now result }
     {
@@ -32,26 +32,26 @@ impl<'k> KeyParts<'k> {
         }
     }
 
-    /// Those of the key of an instance.
+    /// The parts of the key of an instance.
     pub(crate) fn of_instance(uid: &'k Uid, at: &'k Moment) -> KeyParts<'k>
         ensures { HasParts (key.Instance uid.now at.now) result }
     {
         KeyParts {
             uid,
-            // that of an instance, by `Key::rank`
+            // The rank of an instance, by `Key::rank`.
             rank: 1,
             instance: Some(at),
             attendee: "",
         }
     }
 
-    /// Those of the key of what an attendee answers to an instance, or to the to-do as a whole.
+    /// The parts of the key of an attendee's answer to an instance, or to the to-do as a whole if `at` is `None`.
     pub(crate) fn of_answer(uid: &'k Uid, at: Option<&'k Moment>, attendee: &'k str) -> KeyParts<'k>
         ensures { HasParts (key.Answer uid.now (option_copied at.entry) attendee.now) result }
     {
         KeyParts {
             uid,
-            // that of an answer, by `Key::rank`
+            // The rank of an answer, by `Key::rank`.
             rank: 3,
             instance: at,
             attendee,
@@ -59,17 +59,17 @@ impl<'k> KeyParts<'k> {
     }
 }
 
-/// A key beside the parts of another: by UID, then by the rest.
+/// Compares a key with the parts of another as slots are compared: by the rest, then by UID.
 pub(crate) fn compare(key: &Key, parts: &KeyParts<'_>) -> Ordering
     ensures { result ≡ parts_cmp key.now parts.now }
 {
-    match key.uid().cmp(parts.uid) {
-        Ordering::Equal => compare_rest(key, parts),
+    match compare_rest(key, parts) {
+        Ordering::Equal => key.uid().cmp(parts.uid),
         unequal => unequal,
     }
 }
 
-/// By kind of key, then by instance and attendee.
+/// Compares by kind of key, then by attendee and instance.
 fn compare_rest(key: &Key, parts: &KeyParts<'_>) -> Ordering
     ensures { result ≡ rest_beside key.now parts.now }
 {
@@ -79,12 +79,12 @@ fn compare_rest(key: &Key, parts: &KeyParts<'_>) -> Ordering
     }
 }
 
-/// By instance and attendee.
+/// Compares by attendee and instance.
 fn compare_within(key: &Key, parts: &KeyParts<'_>) -> Ordering
     ensures { result ≡ within_beside key.now parts.now }
 {
-    match key.instance().cmp(&parts.instance) {
-        Ordering::Equal => key.attendee().cmp(parts.attendee),
+    match key.attendee().cmp(parts.attendee) {
+        Ordering::Equal => key.instance().cmp(&parts.instance),
         unequal => unequal,
     }
 }

@@ -1,4 +1,4 @@
-//! The kept items, item by item as they are defined: each is compared with each. It is slow, and what a state is tested against.
+//! The kept items, item by item as they are defined: each is compared with each. This is slow, and is what a state is tested against.
 ghost use Rattle.std.specs.Prelude.{◌≡◌, ◌↔◌, ◌≢◌, IsTrue, IfOk};
 ghost use Rattle.std.specs.List.{Contains, AllPairs, list_any};
 ghost use Rattle.itip_items.specs.declared.item.Item.{Item};
@@ -18,7 +18,7 @@ fn outdates(later: &Item, item: &Item) -> bool
     compare(&later.key, &item.key).is_eq() && later.cmp_rev(item).is_gt()
 }
 
-/// Whether `series` is a series item that `item` is dead below.
+/// Whether `series` is a series item below which `item` is dead.
 fn kills(series: &Item, item: &Item) -> bool
     ensures { result ≡ item_kills series.now item.now }
 {
@@ -50,7 +50,7 @@ fn has(items: &[Item], item: &Item) -> bool
     items.contains(item)
 }
 
-/// The kept items among these, each once.
+/// Copies of the kept items among these, each once. Fails if an allocation fails.
 pub fn kept(alloc: Global, items: &[Item]) -> Result<Vec<Item>, NoMemory>
     ensures kept { IfOk result (λ kept. AreKept kept.items items.now) }
     ensures once { IfOk result (λ kept. AllPairs (λ (a b : Item). a ≢ b) kept.items) }

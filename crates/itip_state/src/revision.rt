@@ -12,7 +12,7 @@ use std::cmp::Ordering;
 use std::marker::Model;
 use std::sync::Arc;
 
-/// An item in the order of revisions. It is shared: a second one is a count more, and takes no memory.
+/// An item in the order of revisions. It is shared: copying it raises a count, and allocates nothing.
 #[derive(Debug, Drop)]
 pub struct Revision {
     shared: Arc<Item>,

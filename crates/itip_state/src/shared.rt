@@ -1,4 +1,4 @@
-//! Items that many can hold.
+//! Items that many holders can share.
 ghost use Rattle.std.specs.Prelude.{◌≡◌, [], IfOk, IsOk, map, refl};
 ghost use Rattle.std.specs.Option.{option_copied};
 ghost use Rattle.std.specs.Cmp.{partial_order_from_total, partial_equiv_from_equiv, eq_by_cmp_equiv};
@@ -19,11 +19,11 @@ use std::cmp::Ordering;
 use std::marker::Model;
 use std::ops::Deref;
 
-/// An item that many can hold: a second one is a count more, and takes no memory. Contracts see it as the item.
+/// An item that many holders can share: cloning it raises a count, and allocates nothing. Contracts see it as the item.
 #[derive(Debug, Drop)]
 pub struct SharedItem {
     revision: Revision,
-    /// Where a state holds it among the items of its UID; `None` where it is a series item, which needs no such place.
+    /// Where a state holds it among the items of its UID; `None` for a series item, which needs no such place.
     slot: Option<Slot>,
 }
 
@@ -43,14 +43,14 @@ impl Model for SharedItem {
 }
 
 impl SharedItem {
-    /// This item, to be shared.
+    /// Makes an item one that can be shared. If an allocation fails, the item is dropped.
     pub fn new(alloc: Global, item: Item) -> Result<SharedItem, NoMemory>
         ensures { IfOk result (λ shared. shared ≡ item) }
     {
         let slot = match slot_of(alloc, &item.key) {
             Ok(slot) => slot,
             Err(refused) => {
-                // By a call: what is dropped in place is proved anew, field by field and case by case.
+                // Dropped by a call: an implicit drop is proved anew, field by field and case by case.
                 drop(item);
                 return Err(refused);
             }
@@ -59,7 +59,7 @@ impl SharedItem {
         Ok(SharedItem { revision, slot })
     }
 
-    /// The item of a revision that a state holds at this slot, or, with none, as a series item.
+    /// The item of a revision that a state holds at this slot, or as a series item if there is no slot.
     pub(crate) fn held_at(slot: Option<&Slot>, revision: &Revision) -> Result<SharedItem, NoMemory>
         requires { IsPlaceOf (option_copied slot) revision.now.key }
         ensures { IfOk result (λ shared. shared ≡ revision.now) }
@@ -102,7 +102,7 @@ impl SharedItem {
         &self.revision
     }
 
-    /// The item in the order of revisions, which takes no memory.
+    /// The item in the order of revisions. Allocates nothing.
     pub fn into_revision(self) -> Revision
         ensures { result ≡ self }
     {
@@ -111,7 +111,7 @@ impl SharedItem {
         revision
     }
 
-    /// Where a state holds it among the items of its UID, or `None` where it is a series item.
+    /// Where a state holds it among the items of its UID, or `None` if it is a series item.
     pub(crate) fn slot(&self) -> Option<&Slot>
         ensures { IsPlaceOf (option_copied result) self.now.key }
     {
@@ -161,7 +161,7 @@ impl PartialOrd for SharedItem {
     }
 }
 
-/// By canonical octets.
+/// By canonical bytes.
 impl Ord for SharedItem {
     ghost cmp = { octets_cmp };
 
@@ -176,7 +176,7 @@ impl Ord for SharedItem {
     }
 }
 
-/// The slot of an item of this key, or `None` where it is a series item.
+/// The slot of an item of this key, or `None` for a series item.
 fn slot_of(alloc: Global, key: &Key) -> Result<Option<Slot>, NoMemory>
     ensures { IfOk result (λ slot. IsPlaceOf slot key.now) }
 {
@@ -187,7 +187,7 @@ fn slot_of(alloc: Global, key: &Key) -> Result<Option<Slot>, NoMemory>
     Ok(slot)
 }
 
-/// The items given, by canonical octets, each once. A refusal (out of memory) drops them. No item takes no memory.
+/// These items, sorted by canonical bytes, each once. If an allocation fails, they are dropped. Allocates nothing if there are no items.
 pub fn by_octets(items: Vec<SharedItem>) -> Result<Vec<SharedItem>, NoMemory>
     ensures items { IfOk result (λ sorted. IsItemsOf sorted.items items.items) }
     ensures succeeds { items.items ≡ [] → IsOk result }
@@ -198,7 +198,7 @@ pub fn by_octets(items: Vec<SharedItem>) -> Result<Vec<SharedItem>, NoMemory>
     Ok(items)
 }
 
-/// The UIDs that items are about, by octets, each once. Of no item it takes no memory.
+/// The UIDs that items are about, sorted by bytes, each once. Fails if an allocation fails; allocates nothing if there are no items.
 pub fn uids<'a>(alloc: Global, items: &[&'a SharedItem]) -> Result<Vec<&'a Uid>, NoMemory>
     ensures uids { IfOk result (λ uids. AreUidsOf (map (λ uid. uid.now) uids.items) (map (λ item. item.now) items.now)) }
     ensures succeeds { items.now ≡ [] → IsOk result }

@@ -2,9 +2,8 @@
 ghost use Rattle.std.specs.Prelude.{◌≡◌, IfOk, refl};
 ghost use Rattle.std.specs.Cmp.{partial_order_from_total, partial_equiv_from_equiv, eq_by_cmp_equiv};
 ghost use Rattle.std.specs.Ordering.{as_partial_cmp, eq_by_cmp};
-ghost use Rattle.itip_state.specs.Slots.{rest_cmp, key_cmp, slot_cmp, slot_total};
+ghost use Rattle.itip_state.specs.Slots.{rest_cmp, slot_cmp, slot_total};
 
-use crate::parts::{self, KeyParts};
 use itip_items::Key;
 use itip_join::{Exact, NoMemory};
 use std::alloc::Global;
@@ -12,8 +11,8 @@ use std::cmp::Ordering;
 use std::marker::Model;
 use std::sync::Arc;
 
-/// The key of an item among those of its UID: by kind of key, instance and attendee, and only then by UID, which is the
-/// same. It is shared, as a revision is.
+/// The key of an item among those of its UID: in order by kind of key, attendee and instance, and only then by UID, which is the same. It
+/// is shared, as a revision is.
 #[derive(Debug, Drop)]
 pub(crate) struct Slot {
     shared: Arc<Key>,
@@ -34,7 +33,7 @@ impl Model for Slot {
 }
 
 impl Slot {
-    /// The place of this key.
+    /// The slot of this key.
     pub(crate) fn new(alloc: Global, key: Key) -> Result<Slot, NoMemory>
         ensures { IfOk result (λ slot. slot ≡ key) }
     {
@@ -51,21 +50,23 @@ impl Slot {
     }
 }
 
-/// By UID, then by kind of key, instance and attendee.
+/// Compares by kind of key, attendee and instance, and then by UID.
+///
+/// The answers of one to-do share their instance and their UID, either of which can be long: so these come last.
 pub(crate) fn compare(key: &Key, other: &Key) -> Ordering
-    ensures { result ≡ key_cmp key.now other.now }
+    ensures { result ≡ slot_cmp key.now other.now }
 {
-    parts::compare(key, &KeyParts::of(other))
+    compare_rest(key, other).then_with(|| key.uid().cmp(other.uid()))
 }
 
-/// By kind of key, instance and attendee.
+/// Compares by kind of key, attendee and instance.
 fn compare_rest(key: &Key, other: &Key) -> Ordering
     ensures { result ≡ rest_cmp key.now other.now }
 {
     key.rank()
         .cmp(&other.rank())
-        .then_with(|| key.cmp_instances(other))
         .then_with(|| key.attendee().cmp(other.attendee()))
+        .then_with(|| key.cmp_instances(other))
 }
 
 impl PartialEq for Slot {
@@ -102,8 +103,7 @@ impl Ord for Slot {
     ghost matches_eq = { λ x y. refl };
 
     fn cmp(&self, other: &Slot) -> Ordering {
-        let (key, other) = (self.key(), other.key());
-        compare_rest(key, other).then_with(|| key.uid().cmp(other.uid()))
+        compare(self.key(), other.key())
     }
 }
 

@@ -26,7 +26,7 @@ use itip_todo::Uid;
 use std::alloc::Global;
 use std::marker::Model;
 
-/// Notes the effective sequence of a series item, if it is the greatest of its UID so far.
+/// Notes the effective sequence of an item, if it is a series item and the greatest of its UID so far.
 fn note_greatest(greatest: &mut OrderedMap<Uid, u32>, item: &SharedItem) -> Result<(), NoMemory>
     requires { IsStrictlySortedBy (slice_cmp nat_cmp) (keys_of greatest.old) }
     ensures sorted { IsStrictlySortedBy (slice_cmp nat_cmp) (keys_of greatest.new) }
@@ -45,7 +45,7 @@ fn note_greatest(greatest: &mut OrderedMap<Uid, u32>, item: &SharedItem) -> Resu
     Ok(())
 }
 
-/// Shows the items of one UID, the series item first.
+/// Appends the items of one UID, the series item first.
 fn show<'a>(series: &'a HeldOfUid, items: &mut Vec<&'a Item>) -> Result<(), NoMemory>
     ensures { OnOk result (map (λ item. item.now) items.new.items
         ≡ map (λ item. item.now) items.old.items ++ uid_state_items (uid_state series.now)) }
@@ -59,7 +59,7 @@ fn show<'a>(series: &'a HeldOfUid, items: &mut Vec<&'a Item>) -> Result<(), NoMe
     Ok(())
 }
 
-/// The kept items of a set: of each key the best, the dead left out. It is seen as the list of these items, each once.
+/// The kept items of a set: the best of each key, without the dead. Contracts see it as the list of these items, each once.
 #[derive(Debug, Drop)]
 pub struct State {
     alloc: Global,
@@ -91,7 +91,7 @@ impl State {
     ghost use Rattle.itip_state.specs.Told.{AreNews};
     ghost use Rattle.itip_state.specs.Giving.{AreGivingWay};
 
-    /// The state of nothing heard. It takes no memory.
+    /// The state in which nothing was heard. Allocates nothing.
     pub fn empty(alloc: Global) -> State
         ensures { result ≡ [] }
     {
@@ -101,7 +101,7 @@ impl State {
         }
     }
 
-    /// What is kept of these items. Of no item it takes no memory.
+    /// What is kept of these items, which are copied. Fails if an allocation fails; allocates nothing if there are no items.
     pub fn of_items(alloc: Global, items: &[Item]) -> Result<State, NoMemory>
         ensures kept { IfOk result (λ state. AreKept state items.now) }
         ensures succeeds { items.now ≡ [] → IsOk result }
@@ -114,7 +114,7 @@ impl State {
         Ok(State { alloc, held })
     }
 
-    /// What is kept of these items, shared with whoever has them. Of no item it takes no memory.
+    /// What is kept of these items, which are shared, not copied. Fails if an allocation fails; allocates nothing if there are no items.
     pub fn of_shared(alloc: Global, items: &[SharedItem]) -> Result<State, NoMemory>
         ensures kept { IfOk result (λ state. AreKept state items.now) }
         ensures succeeds { items.now ≡ [] → IsOk result }
@@ -126,9 +126,9 @@ impl State {
         Ok(State { alloc, held: kept })
     }
 
-    /// Those of these items that are news: that this state doesn't tell already, and that are not dead beside it.
+    /// The news among these items: those that this state doesn't tell already and that are not dead beside it.
     ///
-    /// Where none of them is news, no memory is asked for, and the answer is Ok.
+    /// Fails if an allocation fails. If none of the items is news, it allocates nothing and succeeds.
     pub fn news<'a>(&self, items: &'a [SharedItem]) -> Result<Vec<&'a SharedItem>, NoMemory>
         ensures news { IfOk result (λ news. AreNews self.now items.now (map (λ item. item.now) news.items)) }
         ensures state { OnOk result (IsState self.now) }
@@ -144,7 +144,7 @@ impl State {
         Ok(news)
     }
 
-    /// Hears these items. A refusal (out of memory) changes nothing. Where none of them is news, the answer is Ok.
+    /// Hears these items. If an allocation fails, nothing changes. If none of the items is news, it succeeds.
     pub fn hear(&mut self, items: &[&SharedItem]) -> Result<(), NoMemory>
         ensures ok { OnOk result (AreKept self.new (self.old ++ map (λ item. item.now) items.now)) }
         ensures succeeds { IsBelow (map (λ item. item.now) items.now) self.old → IsOk result }
@@ -153,8 +153,11 @@ impl State {
         hear_all(&mut self.held, self.alloc, items)
     }
 
-    /// The kept items that can give way to these, and perhaps others, shared with this state: those at their keys, and those that
-    /// are dead below them. In no particular order, and perhaps more than once. No other is looked at where they are many.
+    /// The kept items that can give way to these, shared with this state: those at their keys, and those that are dead below them. They
+    /// come in no particular order, perhaps more than once, and perhaps with other kept items. Of a UID with many items, the others are
+    /// looked at only if there is no set yet of those that can die.
+    ///
+    /// Fails if an allocation fails.
     pub fn giving_way(&self, news: &[&SharedItem]) -> Result<Vec<SharedItem>, NoMemory>
         ensures { IfOk result (λ items. AreGivingWay self.now (map (λ item. item.now) news.now) items.items) }
     {
@@ -172,7 +175,7 @@ impl State {
         Ok(items)
     }
 
-    /// Whether an item is kept. It takes no memory.
+    /// Whether an item is kept. Allocates nothing.
     pub fn has(&self, item: &SharedItem) -> bool
         ensures { IsTrue result ↔ Contains self.now item.now }
     {
@@ -182,9 +185,9 @@ impl State {
         }
     }
 
-    /// Hears another state: their least upper bound. A refusal (out of memory) changes nothing.
+    /// Merges another state in: this state becomes the least upper bound of both. If an allocation fails, nothing changes.
     ///
-    /// Where the other state tells nothing new, no memory is asked for, and the answer is Ok.
+    /// If the other state has no news, it allocates nothing and succeeds.
     pub fn merge(&mut self, other: &State) -> Result<(), NoMemory>
         ensures ok { OnOk result (AreKept self.new (self.old ++ other.now)) }
         ensures least { OnOk result (IsLeastUpperBound self.old other.now self.new) }
@@ -194,8 +197,10 @@ impl State {
         self.held.join(&other.held)
     }
 
-    /// The kept items of these UIDs, shared with this state, in no particular order, and perhaps more than once. Each
-    /// UID is looked up; no other is looked at. Where nothing is kept of them, no memory is asked for, and the answer is Ok.
+    /// The kept items of these UIDs, shared with this state, in no particular order, and perhaps more than once. Each UID is looked up,
+    /// and no others are looked at.
+    ///
+    /// Fails if an allocation fails. If nothing is kept of these UIDs, it allocates nothing and succeeds.
     pub fn shared_of(&self, uids: &[&Uid]) -> Result<Vec<SharedItem>, NoMemory>
         ensures part { IfOk result (λ items. ArePartOf items.items self.now (map (λ uid. uid.now) uids.now)) }
         ensures succeeds { ArePartOf [] self.now (map (λ uid. uid.now) uids.now) → IsOk result }
@@ -209,7 +214,7 @@ impl State {
         Ok(items)
     }
 
-    /// Copies of the kept items, by canonical octets, each once. Where nothing is kept, it takes no memory.
+    /// Copies of the kept items, sorted by canonical bytes, each once. Fails if an allocation fails; allocates nothing if nothing is kept.
     pub fn items(&self) -> Result<Vec<Item>, NoMemory>
         ensures items { IfOk result (λ items. IsItemsOf items.items self.now) }
         ensures succeeds { self.now ≡ [] → IsOk result }
@@ -222,7 +227,8 @@ impl State {
         Ok(items)
     }
 
-    /// The kept items, shared with this state, by canonical octets, each once. Where nothing is kept, it takes no memory.
+    /// The kept items, shared with this state, sorted by canonical bytes, each once. Fails if an allocation fails; allocates nothing if
+    /// nothing is kept.
     pub fn shared_items(&self) -> Result<Vec<SharedItem>, NoMemory>
         ensures items { IfOk result (λ items. IsItemsOf items.items self.now) }
         ensures succeeds { self.now ≡ [] → IsOk result }
@@ -230,14 +236,14 @@ impl State {
         by_octets(self.held.shared_items(self.alloc)?)
     }
 
-    /// The kept series items, by UID.
+    /// The kept series items, sorted by UID, each once. Fails if an allocation fails.
     pub fn series(&self) -> Result<Vec<&Item>, NoMemory>
         ensures { IfOk result (λ series. AreSeriesOf (map (λ item. item.now) series.items) self.now) }
     {
         self.held.series(self.alloc)
     }
 
-    /// The UIDs of which something is kept, by octets, each once.
+    /// The UIDs of which something is kept, sorted by bytes, each once. Fails if an allocation fails.
     pub fn uids(&self) -> Result<Vec<&Uid>, NoMemory>
         ensures uids { IfOk result (λ uids. AreUidsOf (map (λ uid. uid.now) uids.items) self.now) }
         ensures state { OnOk result (IsState self.now) }
@@ -245,14 +251,14 @@ impl State {
         self.held.uids(self.alloc)
     }
 
-    /// The number of UIDs of which something is kept. It takes no memory.
+    /// The number of UIDs of which something is kept. Allocates nothing.
     pub fn uid_count(&self) -> usize
         ensures { (uids : List (List ℕ)) → AreUidsOf uids self.now → length uids ≡ result }
     {
         self.held.len()
     }
 
-    /// Whether an item of a UID is kept. It takes no memory.
+    /// Whether an item of this UID is kept. Allocates nothing.
     pub fn keeps(&self, uid: &Uid) -> bool
         ensures { MatchBool result ((item : Item) × Contains self.now item × (uid_of item.key ≡ uid.now)) (ArePart uid.now [] self.now) }
     {
@@ -262,7 +268,7 @@ impl State {
         }
     }
 
-    /// The kept items of a UID. No other UID is looked at.
+    /// The kept items of a UID. No other UID is looked at. Fails if an allocation fails.
     pub fn of_uid<'a>(&'a self, uid: &'a Uid) -> Result<ItemsOfUid<'a>, NoMemory>
         ensures uid { IfOk result (λ part. part.uid ≡ uid.now) }
         ensures items { IfOk result (λ part. ArePart uid.now part.items self.now) }
@@ -275,8 +281,7 @@ impl State {
         Ok(ItemsOfUid::new(uid, items))
     }
 
-    /// The greatest effective sequence of the kept items that the organizer of a UID has sent, or `None` where there is
-    /// none. It takes no memory.
+    /// The greatest effective sequence of the kept items that the organizer of a UID has sent, if there are any. Allocates nothing.
     pub fn last_used(&self, uid: &Uid) -> Option<u32>
         ensures { IsLastUsed self.now uid.now result }
     {
@@ -286,14 +291,14 @@ impl State {
         }
     }
 
-    /// Whether both keep the same items. It takes no memory.
+    /// Whether both states keep the same items. Allocates nothing.
     pub fn equal(&self, other: &State) -> bool
         ensures { IsTrue result ↔ SameItems self.now other.now }
     {
         self.held.below(&other.held) && other.held.below(&self.held)
     }
 
-    /// The number of kept items; `usize::MAX` where there are more. Each UID is looked at once.
+    /// The number of kept items, or `usize::MAX` if there are more. Each UID is looked at once.
     pub fn entries(&self) -> usize
         ensures number { result ≡ min (length self.now) usize.MAX }
         ensures once { HasEachOnce self.now }
@@ -301,8 +306,7 @@ impl State {
         self.held.count()
     }
 
-    /// What is true of every state: it keeps each of its items, and has each once. The call does nothing; a prover who
-    /// makes it learns this.
+    /// States what is true of every state: it keeps each of its items, and has each once. It does nothing; a proof calls it to learn this.
     pub fn lawful(&self)
         ensures state { IsState self.now }
         ensures once { HasEachOnce self.now }

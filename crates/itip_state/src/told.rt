@@ -12,14 +12,14 @@ use crate::shared::SharedItem;
 use itip_items::Item;
 use itip_join::Lift;
 
-/// Whether `item` is not later than what is held at its key.
+/// Whether `item` is not later than `best`, which is held at its key.
 fn is_no_later(item: &Item, best: &Best) -> bool
     ensures { IsTrue result ↔ (¬ IsLater item.now best.now.value) }
 {
     item.cmp_rev(best.value.item()).is_le()
 }
 
-/// Whether what is held of the UID of `item` at its key is no earlier than it.
+/// Whether something is held at the key of `item` that is no earlier than it. `series` is what is held of its UID.
 fn holds_no_earlier(series: &HeldOfUid, item: &SharedItem) -> bool
     ensures { IsTrue result ↔ HoldsNoEarlier (uid_state series.now) item.now }
 {
@@ -45,7 +45,7 @@ pub(crate) fn outdoes(held: &Held, item: &SharedItem) -> bool
     holds_no_earlier(series, item) || is_dead_below(&series.guard, item.key(), item.item())
 }
 
-/// Whether hearing these items changes nothing. It takes no memory.
+/// Whether hearing these items changes nothing. Allocates nothing.
 pub(crate) fn outdoes_all(held: &Held, items: &[&SharedItem]) -> bool
     ensures { AreHeld held.now → IsTrue result ↔ AreOutdone (items_of held.now) (map (λ item. item.now) items.now) }
 {

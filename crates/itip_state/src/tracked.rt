@@ -1,4 +1,4 @@
-//! The sets by which a map by UID finds what can die, and how an item that comes changes them.
+//! The sets by which a map by UID finds what can die, and how they change when an item is heard.
 ghost use Rattle.std.specs.Prelude.{◌≡◌, ◌⊎◌, ℕ, List, Some, None, true, false, option_map};
 ghost use Rattle.std.specs.BTreeMap.{get};
 ghost use Rattle.std.specs.Ordering.{nat_cmp, is_eq};
@@ -15,8 +15,8 @@ use itip_join::Keyed;
 use itip_todo::Uid;
 use std::collections::BTreeMap;
 
-/// Has the set of a UID, where there is one, know an item that comes to what is held of the UID. Without memory for that there is no
-/// set any more.
+/// Adds the slot of an item that is to be heard to the set of its UID, if there is one. Without the memory for this, or if nothing is held
+/// of the UID, the set is dropped.
 pub(crate) fn follow(due: &mut BTreeMap<Uid, Due>, map: &Keyed<Uid, HeldOfUid>, item: &SharedItem)
     ensures followed { IsFollowed (option_map uid_state (value_at (slice_cmp nat_cmp) map.now.map (uid_of item.now.key))) item.now
         (get (slice_cmp nat_cmp) due.old (uid_of item.now.key)) (get (slice_cmp nat_cmp) due.new (uid_of item.now.key)) }
@@ -35,7 +35,7 @@ pub(crate) fn follow(due: &mut BTreeMap<Uid, Due>, map: &Keyed<Uid, HeldOfUid>, 
     keep(due, uid, set);
 }
 
-/// The set with the slot of an item that comes, if that is new.
+/// The set with the slot of an item that is to be heard, if the slot is new. `None` if an allocation fails.
 fn grown(set: Due, held: &HeldOfUid, item: &SharedItem) -> Option<Due>
     ensures { IsFollowed (Some (uid_state held.now)) item.now (Some set) result }
 {
@@ -52,7 +52,7 @@ fn grown(set: Due, held: &HeldOfUid, item: &SharedItem) -> Option<Due>
     }
 }
 
-/// Puts in the set of a UID that has none, if there is one, and the memory for that.
+/// Keeps `set`, if there is one, as that of a UID. Without the memory for this it is dropped.
 pub(crate) fn keep(due: &mut BTreeMap<Uid, Due>, uid: &Uid, set: Option<Due>)
     ensures here { (get (slice_cmp nat_cmp) due.new uid.now ≡ set) ⊎
         (get (slice_cmp nat_cmp) due.new uid.now ≡ get (slice_cmp nat_cmp) due.old uid.now) }

@@ -1,5 +1,5 @@
 -- What is shown of a text is a text.
-use Rattle.std.proofs.Common.{◌≡◌, ◌∙◌, sym, ap, refl, subst, suc, ℕ, ◌+◌, ◌/◌, ◌%◌, ◌≤◌, ◌<◌, Bool, true, false, cond, ltb, eqb}
+use Rattle.std.proofs.Common.{◌≡◌, ◌∙◌, sym, ap, subst, suc, ℕ, ◌+◌, ◌/◌, ◌%◌, ◌≤◌, ◌<◌, Bool, true, false, cond, ltb, eqb}
 use Rattle.std.proofs.Common.{◌&&◌, ◌||◌, List, [], ◌∷◌, ◌++◌, inl, inr, arith, lit<}
 use Rattle.std.specs.Str.{IsUtf8}
 use Rattle.std.specs.Char.{digit_char}
@@ -37,7 +37,7 @@ no_single : (octet : ℕ) → 128 ≤ octet → (ltb octet 32 || eqb octet 127) 
 no_single octet large =
     or_from (ltb octet 32) (eqb octet 127) (le-ltb octet 32 (omega arith)) (ne_eqb octet 127 (λ e. absurd (omega arith)))
 
--- no octet of a control character: one from 128 on that neither is c2 nor stands behind it
+-- no octet of a control character: one from 128 on that neither is c2 nor comes after it
 plain : (before octet : ℕ) (after : List ℕ) → 128 ≤ octet → (octet ≡ 194 → ⊥) → (before ≡ 194 → ⊥) →
     is_hidden false before octet after ≡ false
 plain before octet after large other behind_other =

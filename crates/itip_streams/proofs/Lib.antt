@@ -2,3 +2,4 @@ pub mod Writing
 pub mod Escaping
 pub mod Reading
 pub mod LineReading
+pub mod InARow

@@ -1,9 +1,9 @@
--- A line that is read octet by octet, and octets that are read until there are so many.
+-- A line that is read octet by octet, and octets that are read until there are as many as are asked for.
 use Rattle.std.proofs.Common.{◌≡◌, ◌≢◌, ◌∙◌, sym, ap, refl, subst, ℕ, ◌+◌, ◌<◌, ◌≤◌, List, [], ◌∷◌, ◌++◌, length, take, get_or, arith}
 use Rattle.std.proofs.Common.{append_assoc, append-nil, inl, inr, Option, Some, None, true, false}
 use Rattle.std.specs.Io.KnownBytes.{Consumes, IsAtEnd}
 use Rattle.std.proofs.KnownBytes.{Consumes-nil, Consumes-trans}
-use Rattle.std.proofs.lemmas.List.{length-append, length-take-le}
+use Rattle.std.proofs.lemmas.List.{length-append, length-take-le, take-append-le}
 use Rattle.std.proofs.lemmas.List.Elements.{All-append, All-nil, All-push}
 use Rattle.itip_streams.specs.Parts.{HasNoLf, EndsLine, ReadsLine, PassesLine, ReadsWithin, ReadsOctets, PassesOctets}
 
@@ -78,7 +78,7 @@ held_none limit old mid now new line octet so_far long one passes = record {
 
 -- ---- a line that is passed
 
--- Octets were passed of which none before the last is LF.
+-- Octets were passed, none of which before the last is LF.
 pub record PassesSoFar (first last : ℕ) (old now : Option (List ℕ)) : Type 0 where
   pub rest : List ℕ
   pub consumed : Consumes old now rest
@@ -130,7 +130,7 @@ module _ (first last : ℕ) (old mid : Option (List ℕ)) (so_far : PassesSoFar 
 
 -- ---- one read
 
--- a read that brings nothing where there is room is the last
+-- a read that brings nothing though there is room is the last
 pub none_read : (old new : Option (List ℕ)) (n : ℕ) (buf : List ℕ) → Consumes old new (take n buf) →
     (n ≡ 0 → 0 < length buf → IsAtEnd new) → n ≡ 0 → 0 < length buf → Consumes old new [] × IsAtEnd new
 none_read old new n buf given end none room = (
@@ -150,7 +150,12 @@ one_read old new n buf given some within size =
     let one : n ≡ 1 = omega (arith, some, within, size) in
     subst (λ (t : List ℕ). Consumes old new t) (ap (λ (k : ℕ). take k buf) one ∙ one_octet buf size) given
 
--- ---- so many octets
+-- ---- a number of octets
+
+-- what was brought is the front of a longer buffer
+pub read_more : (octets buffer rest grown : List ℕ) (n : ℕ) → n ≤ length buffer → grown ≡ octets ++ take n (buffer ++ rest) →
+    grown ≡ octets ++ take n buffer
+read_more octets buffer rest grown n within is = is ∙ ap (λ (t : List ℕ). octets ++ t) (take-append-le n buffer rest within)
 
 pub more_octets : (octets : List ℕ) (n : ℕ) (buf : List ℕ) → n ≤ length buf → length (octets ++ take n buf) ≡ length octets + n
 more_octets octets n buf within = omega (arith, length-append octets (take n buf), length-take-le n buf within)

@@ -1,4 +1,4 @@
--- What is left of a reader that is let go at its end, and of one that is opened late.
+-- What is left of a reader that is dropped at its end, and of one that is opened late.
 use Rattle.std.proofs.Common.{◌∙◌, sym, ap, ℕ, List, [], ◌++◌, take, Option, Some, None, Result, Ok, Err}
 use Rattle.std.specs.Io.KnownBytes.{Consumes, IsAtEnd, Keeps, ReadConsumes}
 use Rattle.std.proofs.KnownBytes.{Keeps-trans}
@@ -15,7 +15,7 @@ kept_given (Some xs) None new bytes kept given = absurd kept
 kept_given (Some xs) (Some ys) None bytes kept given = absurd given
 kept_given (Some xs) (Some ys) (Some zs) bytes kept given = sym kept ∙ given
 
--- a read behind a step that keeps what is left
+-- a read after a step that keeps what is left
 pub kept_read : {E : Type 0} (old mid new : Option (List ℕ)) (result : Result ℕ E) (buf : List ℕ) → Keeps old mid →
     ReadConsumes mid new result buf → ReadConsumes old new result buf
 kept_read old mid new (Ok n) buf kept given = (kept_given old mid new (take n buf) kept given.0, given.1)

@@ -6,7 +6,7 @@ use Rattle.std.proofs.KnownBytes.{Appends-nil, Appends-trans}
 use Rattle.std.specs.Io.KnownBytes.{Appends}
 use Rattle.itip_streams.specs.Written.{AppendsFront, MovesOut}
 
--- one write more
+-- one more write
 pub wrote_more : (old mid new : Option (List ℕ)) (output rest : List ℕ) (n : ℕ) → MovesOut old mid output rest →
     Appends mid new (take n rest) → MovesOut old new output (take (length rest - n) (drop n rest))
 wrote_more old mid new output rest n so_far written = record {
@@ -21,7 +21,7 @@ wrote_more old mid new output rest n so_far written = record {
 pub front_none : (o : Option (List ℕ)) (output : List ℕ) → AppendsFront o o output
 front_none o output = record { front = []; rest = output; whole = refl; appended = Appends-nil o }
 
--- a front of what was kept to be written is written, behind what was written before
+-- a prefix of what was kept to be written is written, after what was written before
 pub front_behind : (old mid new : Option (List ℕ)) (written kept : List ℕ) → Appends old mid written → AppendsFront mid new kept →
     AppendsFront old new (written ++ kept)
 front_behind old mid new written kept appended front = record {
@@ -31,7 +31,7 @@ front_behind old mid new written kept appended front = record {
   appended = Appends-trans old mid new written front.front appended front.appended;
 }
 
--- a front of an output is one of a longer output
+-- a prefix of an output is one of a longer output
 pub front_longer : (old new : Option (List ℕ)) (output more : List ℕ) → AppendsFront old new output → AppendsFront old new (output ++ more)
 front_longer old new output more front = record {
   front = front.front;
@@ -47,7 +47,7 @@ pub moves_none : (o : Option (List ℕ)) (kept : List ℕ) → MovesOut o o kept
 moves_none o kept = record { front = []; whole = refl; appended = Appends-nil o }
 
 module _ (old mid : Option (List ℕ)) (kept rest : List ℕ) (moves : MovesOut old mid kept rest) where
-  -- more is kept behind what is left
+  -- more is kept after what is left
   pub moves_more : (more grown : List ℕ) → grown ≡ rest ++ more → MovesOut old mid (kept ++ more) grown
   moves_more more grown is = record {
     front = moves.front;
@@ -64,7 +64,7 @@ module _ (old mid : Option (List ℕ)) (kept rest : List ℕ) (moves : MovesOut 
     appended = Appends-trans old mid new moves.front more.front moves.appended more.appended;
   }
 
-  -- a front of what is left is written
+  -- a prefix of what is left is written
   pub front_moved : (new : Option (List ℕ)) → AppendsFront mid new rest → AppendsFront old new kept
   front_moved new front =
       subst (λ (t : List ℕ). AppendsFront old new t) (sym moves.whole) (front_behind old mid new moves.front rest moves.appended front)

@@ -1,11 +1,11 @@
--- What is left of a source, where its octets are known (our own form).
+-- What is left of a source, if its bytes are known (our own form).
 use Rattle.std.specs.Prelude.{ℕ, List, [], Option, Some, None, option_map, unwrap_or, string_bytes}
 use Rattle.itip_streams.specs.declared.source.Held.{Held}
 use Rattle.itip_streams.specs.declared.source.Held.TheVariants as held
 use Rattle.itip_streams.specs.declared.source_name.SourceName.{SourceName}
 use Rattle.itip_streams.specs.declared.source_name.SourceName.TheVariants as named
 
--- what is left of a reader; nothing once it was let go
+-- what is left of a reader; nothing once it has been dropped
 abbrev pub left : {R : Type 0} → (R → Option (List ℕ)) → Option R → Option (List ℕ)
 left remaining reader = unwrap_or (option_map remaining reader) (Some [])
 

@@ -12,13 +12,13 @@ called (named.Unreadable name) = string_bytes name
 abbrev pub message_of : List ℕ → ℕ → List ℕ
 message_of name message = name ++ codes " message " ++ decimal message
 
--- where a message stands, by its number in the source
+-- the place of a message, by its number in the source
 abbrev pub place_of : SourceName → ℕ → List ℕ
 place_of named.StandardInput message = codes "message " ++ decimal message
 place_of (named.File name) message = message_of (string_bytes name) message
 place_of (named.Unreadable name) message = message_of (string_bytes name) message
 
--- a place, the number of a refusal, and why, where that is given
+-- a place, the number of a refusal, and why, if that is given
 abbrev pub refusal_at : List ℕ → ℕ → Option (List ℕ) → List ℕ
 refusal_at place number None = place ++ codes ": refused " ++ decimal number
 refusal_at place number (Some why) = place ++ codes ": refused " ++ decimal number ++ codes ": " ++ why

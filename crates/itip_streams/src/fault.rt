@@ -1,20 +1,20 @@
-//! What ends reading or writing before its end.
+//! Why reading or writing ends early.
 ghost use Rattle.std.specs.Prelude.{◌≡◌};
 ghost use Rattle.itip_streams.specs.declared.fault.StreamFault.TheVariants.{Memory};
 
 use std::alloc::{AllocError, AllocFailed};
 use thiserror::Error;
 
-/// Why something was not read or written to its end. What was written by then is a front of the output.
+/// Why something was not read or written to its end. What has been written by then is a prefix of the output.
 #[derive(Clone, Copy, Debug, PartialEq, Eq, Error)]
 pub enum StreamFault {
     /// A read failed, or there were too many.
     #[error("read failed")]
     Read,
-    /// A write failed, or accepted no octet.
+    /// A write failed, or accepted no bytes.
     #[error("write failed")]
     Write,
-    /// Out of memory.
+    /// An allocation failed.
     #[error("no memory")]
     Memory,
 }

@@ -8,11 +8,12 @@ use std::alloc::{AllocError, Global};
 use std::rt::Files;
 use std::{fs, io};
 
-/// The sources that words name, in their order. `-` is standard input, and so is no word at all. A folder stands for the regular
-/// files in it, links followed, whose names end in `.ics`, in whatever case, by the octets of their names; folders in it are not
-/// entered. Every other word is a file of that name, which need not be there.
+/// The sources that words name, in their order. `-` is standard input, and so are no words at all. A folder stands for the regular
+/// files in it whose names end in `.ics`, in any case, sorted by the bytes of their names; links are followed, and folders in it are
+/// not entered. Every other word is a file of that name, which need not exist.
 ///
-/// A folder that can't be listed, that has a name which isn't UTF-8, or one that ends in `.ics` and leads nowhere, can't be read.
+/// A folder that can't be listed, that has a name which isn't UTF-8, or a name that ends in `.ics` and leads nowhere, is
+/// [`SourceName::Unreadable`]. Fails if an allocation fails.
 pub fn source_names<R: Files + AllocGlobal + Clone + Drop>(
     rt: &R,
     words: &[String],
@@ -56,7 +57,7 @@ fn add_sources<R: Files + AllocGlobal + Clone + Drop>(
     }
 }
 
-/// Whether a word names a folder. What isn't there, or can't be asked about, is none.
+/// Whether a word names a folder. What doesn't exist, or can't be asked about, is none.
 fn is_folder<R: Files>(rt: &R, word: &str) -> bool {
     match fs::metadata(rt, word) {
         Ok(found) => found.is_dir(),
@@ -93,7 +94,7 @@ fn names_in<R: Files + AllocGlobal + Clone + Drop>(
     Ok(names)
 }
 
-/// Those of the names that end in `.ics`, in whatever case, by their octets. Where memory is refused they are dropped.
+/// The names that end in `.ics`, in any case, sorted by their bytes. If an allocation fails, the names are dropped.
 fn ics_names(alloc: Global, names: Vec<String>) -> Result<Vec<String>, AllocError>
     ensures { IfOk result (λ found. AreIcsNames names.items found.items) }
 {
@@ -122,7 +123,7 @@ fn ends_in_ics(name: &str) -> bool
     end.eq_ignore_ascii_case(b".ics")
 }
 
-/// What a file of a folder is called: the folder, one slash, and the name.
+/// The path of a file in a folder: the folder, a slash unless the folder ends in one, and the name.
 fn joined(alloc: Global, folder: &str, name: &str) -> Result<String, AllocError>
     ensures { IfOk result (λ path. string_bytes path ≡ joined folder.now name.now) }
 {

@@ -1,9 +1,9 @@
-//! Reading octets.
-ghost use Rattle.std.specs.Prelude.{◌≡◌, ◌<◌, ◌≤◌, ◌≢◌, length, vec_len, option_map, IfOk, OnOk, IfErr, IfSome, IfNone};
-ghost use Rattle.std.specs.Prelude.{OnOk, IsErrOf};
+//! Reading bytes.
+ghost use Rattle.std.specs.Prelude.{◌≡◌, ◌<◌, ◌≤◌, ◌≢◌, length, vec_len, option_map, IfOk, IfErr, IfSome, IfNone};
+ghost use Rattle.std.specs.Prelude.{OnOk, OnErr, IsErrOf, MatchOption, MatchBool, Some, None};
 ghost use Rattle.std.specs.Result.{result_ok};
 ghost use Rattle.std.specs.Io.KnownBytes.{ReadConsumes};
-ghost use Rattle.itip_streams.specs.Once.{FailsReading, ReadsWell};
+ghost use Rattle.itip_streams.specs.Once.{EndsReading, FailsReading, ReadsMore, ReadsOnce, ReadsSome, ReadsTo, ReadsWell};
 ghost use Rattle.itip_streams.specs.Parts.{ReadsWithin, ReadsOctets, ReadsOctet, PassesLine, PassesOctets};
 
 use crate::fault::StreamFault;
@@ -14,15 +14,16 @@ use std::io::Read;
 /// The most reads that a text may take.
 pub const MAX_READS: u64 = 33_554_432;
 
-// How much one read may bring.
+// The most bytes of one read.
 const ROOM: usize = 65_536;
 
-// The same where a few octets are asked for.
+// The same for reads that hold only a few bytes at a time.
 const SMALL_ROOM: usize = 4_096;
 
-/// Reads all octets, of which there may be `limit`. `None` says that there are more: one more was read, and the rest is left.
+/// Reads all bytes, at most `limit`. Returns `None` if there are more: one more has been read, and the rest is left.
 ///
-/// A failed read is [`StreamFault::Read`] at once, and so is one read more than [`MAX_READS`].
+/// The first failed read is returned as [`StreamFault::Read`], and so is a text whose end isn't found in [`MAX_READS`] reads. If an
+/// allocation fails, the error is [`StreamFault::Memory`], and no read has failed.
 pub fn read_within<R: Read + ReadOnce>(
     alloc: Global,
     reader: &mut R,
@@ -35,6 +36,7 @@ pub fn read_within<R: Read + ReadOnce>(
     ensures fault { IfErr result (λ fault. fault ≢ StreamFault.Write) }
     ensures well { OnOk result (ReadsWell R.reads reader.old reader.new) }
     ensures failed { IsErrOf result StreamFault.Read → FailsReading R.reads reader.old reader.new }
+    ensures stopped { IsErrOf result StreamFault.Memory → ReadsSome R.reads reader.old reader.new }
 {
     let mut text = Vec::new(alloc);
     let mut buffer = [0u8; ROOM];
@@ -53,9 +55,9 @@ pub fn read_within<R: Read + ReadOnce>(
     Err(StreamFault::Read)
 }
 
-/// Reads some octets to the front of a buffer, and gives their number: 0 at the end, or where the buffer is empty.
+/// Reads some bytes to the front of a buffer, and returns their number: 0 at the end, or if the buffer is empty.
 ///
-/// It reads once; a failed read is [`StreamFault::Read`].
+/// Makes one read. Fails with [`StreamFault::Read`] if that fails.
 pub fn read_some<R: Read + ReadOnce>(
     reader: &mut R,
     buffer: &mut [u8],
@@ -71,11 +73,12 @@ pub fn read_some<R: Read + ReadOnce>(
     }
 }
 
-/// Reads a line with its LF, or what is left where none follows: no octets at the end. Of a line of more than `limit` octets all is
-/// read, and nothing held: it is `None`.
+/// Reads a line with its LF, or what is left if no LF follows: no bytes at the end. Returns `None` for a line of more than `limit`
+/// bytes, LF included; all of it has been read.
 ///
-/// A failed read is [`StreamFault::Read`] at once.
-pub fn read_line_within<R: Read>(
+/// The first failed read is returned as [`StreamFault::Read`]. If an allocation fails, the error is [`StreamFault::Memory`], and no
+/// read has failed.
+pub fn read_line_within<R: Read + ReadOnce>(
     alloc: Global,
     reader: &mut R,
     limit: usize,
@@ -83,6 +86,9 @@ pub fn read_line_within<R: Read>(
     ensures reads { IfOk result (λ found. ReadsWithin limit (R.remaining reader.old) (R.remaining reader.new)
         (option_map (λ line. line.items) found)) }
     ensures fault { IfErr result (λ fault. fault ≢ StreamFault.Write) }
+    ensures well { OnOk result (ReadsWell R.reads reader.old reader.new) }
+    ensures failed { IsErrOf result StreamFault.Read → FailsReading R.reads reader.old reader.new }
+    ensures stopped { IsErrOf result StreamFault.Memory → ReadsSome R.reads reader.old reader.new }
 {
     let mut line = Vec::new(alloc);
     while line.len() < limit {
@@ -101,10 +107,12 @@ pub fn read_line_within<R: Read>(
     Ok(None)
 }
 
-/// Reads what is left of a line of which this octet was read.
-fn pass_line<R: Read>(reader: &mut R, last: u8) -> Result<(), StreamFault>
+/// Reads what is left of a line, of which `last` was the last byte read.
+fn pass_line<R: Read + ReadOnce>(reader: &mut R, last: u8) -> Result<(), StreamFault>
     ensures passes { OnOk result (PassesLine last (R.remaining reader.old) (R.remaining reader.new)) }
     ensures fault { IfErr result (λ fault. fault ≡ StreamFault.Read) }
+    ensures well { OnOk result (EndsReading R.reads reader.old reader.new) }
+    ensures failed { OnErr result (FailsReading R.reads reader.old reader.new) }
 {
     let mut last = last;
     for _ in 0..u64::MAX {
@@ -119,10 +127,13 @@ fn pass_line<R: Read>(reader: &mut R, last: u8) -> Result<(), StreamFault>
     Err(StreamFault::Read)
 }
 
-/// Reads one octet; none at the end.
-fn read_octet<R: Read>(reader: &mut R) -> Result<Option<u8>, StreamFault>
+/// Reads one byte. Returns `None` at the end.
+fn read_octet<R: Read + ReadOnce>(reader: &mut R) -> Result<Option<u8>, StreamFault>
     ensures reads { IfOk result (ReadsOctet (R.remaining reader.old) (R.remaining reader.new)) }
     ensures fault { IfErr result (λ fault. fault ≡ StreamFault.Read) }
+    ensures well { IfOk result (λ found. MatchOption found (ReadsOnce R.reads (Some 0) reader.old reader.new)
+        (λ _. ReadsMore R.reads reader.old reader.new)) }
+    ensures failed { OnErr result (ReadsOnce R.reads None reader.old reader.new) }
 {
     let mut buffer = [0u8; 1];
     if read_some(reader, &mut buffer)? == 0 {
@@ -131,10 +142,11 @@ fn read_octet<R: Read>(reader: &mut R) -> Result<Option<u8>, StreamFault>
     Ok(Some(buffer[0]))
 }
 
-/// Reads so many octets. `None` says that there were fewer: all that is left was read then.
+/// Reads exactly `count` bytes. Returns `None` if the input ends first; what was left of it has been read.
 ///
-/// A failed read is [`StreamFault::Read`] at once.
-pub fn read_octets<R: Read>(
+/// The first failed read is returned as [`StreamFault::Read`]. If an allocation fails, the error is [`StreamFault::Memory`], and no
+/// read has failed.
+pub fn read_octets<R: Read + ReadOnce>(
     alloc: Global,
     reader: &mut R,
     count: usize,
@@ -142,6 +154,10 @@ pub fn read_octets<R: Read>(
     ensures reads { IfOk result (λ found. ReadsOctets count (R.remaining reader.old) (R.remaining reader.new)
         (option_map (λ octets. octets.items) found)) }
     ensures fault { IfErr result (λ fault. fault ≢ StreamFault.Write) }
+    ensures well { IfOk result (λ found. MatchOption found (ReadsTo R.reads (Some 0) reader.old reader.new)
+        (λ _. ReadsSome R.reads reader.old reader.new)) }
+    ensures failed { IsErrOf result StreamFault.Read → ReadsTo R.reads None reader.old reader.new }
+    ensures stopped { IsErrOf result StreamFault.Memory → ReadsSome R.reads reader.old reader.new }
 {
     let mut octets = Vec::new(alloc);
     let mut buffer = [0u8; SMALL_ROOM];
@@ -156,12 +172,16 @@ pub fn read_octets<R: Read>(
     Ok(Some(octets))
 }
 
-/// Reads past so many octets, of which a few are held at a time. `false` says that there were fewer: all that is left was read then.
+/// Reads past `count` bytes, and holds at most 4,096 of them at a time. Returns `false` if the input ends first; what was left of it has
+/// been read.
 ///
-/// A failed read is [`StreamFault::Read`] at once.
-pub fn pass_octets<R: Read>(reader: &mut R, count: u64) -> Result<bool, StreamFault>
+/// The first failed read is returned as [`StreamFault::Read`].
+pub fn pass_octets<R: Read + ReadOnce>(reader: &mut R, count: u64) -> Result<bool, StreamFault>
     ensures passes { IfOk result (PassesOctets count (R.remaining reader.old) (R.remaining reader.new)) }
     ensures fault { IfErr result (λ fault. fault ≡ StreamFault.Read) }
+    ensures well { IfOk result (λ all. MatchBool all (ReadsSome R.reads reader.old reader.new)
+        (ReadsTo R.reads (Some 0) reader.old reader.new)) }
+    ensures failed { OnErr result (ReadsTo R.reads None reader.old reader.new) }
 {
     let mut buffer = [0u8; SMALL_ROOM];
     let mut left = count;

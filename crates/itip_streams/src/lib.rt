@@ -1,4 +1,4 @@
-//! Reading octets from a stream and writing them to one, with each failure told apart; the files, folders and standard input that
+//! Reading bytes from a stream and writing them to one, with each failure told apart; the files, folders and standard input that
 //! words name; and text with its control characters shown.
 #![tactic(auto)]
 

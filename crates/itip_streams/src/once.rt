@@ -7,12 +7,12 @@ ghost use Rattle.std.specs.Io.KnownBytes.{ReadConsumes, WriteAppends};
 use std::io;
 use std::io::{Read, Write};
 
-/// A reader of which contracts can say which reads are made. Every reader is one.
+/// A reader for which contracts can say which reads are made. Every reader is one.
 ///
-/// What a read does is a relation of which a function over all such readers knows nothing. So a function that ensures this relation
+/// What a read does is a relation that a function over all such readers knows nothing about. So a function that ensures this relation
 /// between two states makes one read, and no more.
 pub trait ReadOnce: Read {
-    /// What a read may do: the state before it, how many octets it gives, or that it fails, the state after it, and the buffer.
+    /// What a read may do: the state before it, how many bytes it returns or that it fails, the state after it, and the buffer.
     ghost reads: { Self → Option ℕ → Self → List ℕ → Type 0 };
 
     /// Reads once.
@@ -30,9 +30,9 @@ impl<R: Read> ReadOnce for R {
     }
 }
 
-/// A writer of which contracts can say which writes are made, as [`ReadOnce`] is for reads. Every writer is one.
+/// A writer for which contracts can say which writes are made, as [`ReadOnce`] is for reads. Every writer is one.
 pub trait WriteOnce: Write {
-    /// What a write may do: the state before it, the octets, how many of them it takes, or that it fails, and the state after it.
+    /// What a write may do: the state before it, the bytes, how many of them it takes or that it fails, and the state after it.
     ghost writes: { Self → List ℕ → Option ℕ → Self → Type 0 };
 
     /// Writes once.

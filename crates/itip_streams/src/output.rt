@@ -1,19 +1,19 @@
-//! Writing octets.
-ghost use Rattle.std.specs.Prelude.{◌≡◌, ◌≤◌, length, OnOk, OnErr, IfOk, IfErr};
+//! Writing bytes.
+ghost use Rattle.std.specs.Prelude.{◌≡◌, ◌<◌, ◌≤◌, ◌⊎◌, [], length, vec_len, OnOk, OnErr, IfOk, IfErr};
 ghost use Rattle.std.specs.Io.KnownBytes.{Appends, WriteAppends};
 ghost use Rattle.std.specs.Result.{result_ok};
-ghost use Rattle.itip_streams.specs.Once.{FailsWriting, WritesAll};
+ghost use Rattle.itip_streams.specs.Once.{FailsWriting, WritesAll, WritesFirst, WritesSome};
 ghost use Rattle.itip_streams.specs.Written.{AppendsFront, MovesOut};
 
 use crate::fault::StreamFault;
 use crate::once::WriteOnce;
 use std::io::Write;
 
-// How many octets are kept before they are written.
+// How many bytes are kept before they are written.
 const CHUNK: usize = 65_536;
 
-/// Writes all octets. A failed write is [`StreamFault::Write`] at once, and so is one that accepts no octet;
-/// what was written is then a front of them.
+/// Writes all bytes. The first failed write is returned as [`StreamFault::Write`], and so is one that accepts no bytes; a prefix of
+/// them has been written then.
 pub fn write_output<W: Write + WriteOnce>(writer: &mut W, bytes: &[u8]) -> Result<(), StreamFault>
     ensures all { OnOk result (Appends (W.contents writer.old) (W.contents writer.new) bytes.now) }
     ensures front { OnErr result (AppendsFront (W.contents writer.old) (W.contents writer.new) bytes.now) }
@@ -32,11 +32,16 @@ pub fn write_output<W: Write + WriteOnce>(writer: &mut W, bytes: &[u8]) -> Resul
     Ok(())
 }
 
-/// Writes all octets, and has the writer hand them on. A fault is that of [`write_output`]; where handing on fails, all may be written.
-pub fn write_at_once<W: Write>(writer: &mut W, bytes: &[u8]) -> Result<(), StreamFault>
+/// Writes all bytes and flushes the writer. Fails as [`write_output`] does, and with [`StreamFault::Write`] if the flush fails: then all
+/// bytes may have been written.
+///
+/// Nothing is said of how a writer flushes (`Write::flush`), nor of what it does after it has taken the last byte.
+pub fn write_at_once<W: Write + WriteOnce>(writer: &mut W, bytes: &[u8]) -> Result<(), StreamFault>
     ensures all { OnOk result (Appends (W.contents writer.old) (W.contents writer.new) bytes.now) }
     ensures front { OnErr result (AppendsFront (W.contents writer.old) (W.contents writer.new) bytes.now) }
     ensures fault { IfErr result (λ fault. fault ≡ StreamFault.Write) }
+    ensures well { OnOk result (WritesFirst W.writes writer.old bytes.now) }
+    ensures failed { OnErr result (FailsWriting W.writes writer.old bytes.now writer.new ⊎ WritesFirst W.writes writer.old bytes.now) }
 {
     write_output(writer, bytes)?;
     match writer.flush() {
@@ -45,7 +50,8 @@ pub fn write_at_once<W: Write>(writer: &mut W, bytes: &[u8]) -> Result<(), Strea
     }
 }
 
-/// Writes the octets that are kept, and keeps none, once they are 65,536 or more. A fault is that of [`write_output`]; they are kept then.
+/// Writes all bytes of `kept` if they are 65,536 or more, and then empties it; fewer are left as they are. Fails as [`write_output`]
+/// does, and leaves `kept` unchanged then.
 pub fn write_if_many<W: Write + WriteOnce>(
     writer: &mut W,
     kept: &mut Vec<u8>,
@@ -53,6 +59,11 @@ pub fn write_if_many<W: Write + WriteOnce>(
     ensures moved { OnOk result (MovesOut (W.contents writer.old) (W.contents writer.new) kept.old.items kept.new.items) }
     ensures front { OnErr result (AppendsFront (W.contents writer.old) (W.contents writer.new) kept.old.items) }
     ensures fault { IfErr result (λ fault. fault ≡ StreamFault.Write) }
+    ensures well { OnOk result (WritesSome W.writes writer.old kept.old.items writer.new kept.new.items) }
+    ensures failed { OnErr result (FailsWriting W.writes writer.old kept.old.items writer.new) }
+    ensures few { OnOk result (vec_len kept.old < 65536 → kept.new ≡ kept.old) }
+    ensures none { OnOk result (65536 ≤ vec_len kept.old → kept.new.items ≡ []) }
+    ensures same { OnErr result (kept.new ≡ kept.old) }
 {
     if kept.len() >= CHUNK {
         write_output(writer, kept.as_slice())?;

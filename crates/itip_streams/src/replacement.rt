@@ -17,13 +17,13 @@ const OWN_MODE: u32 = 0o600;
 
 const NEW_MODE: u32 = 0o666;
 
-/// A writer whose octets take the place of a file all at once, when [`end`](Replacement::end) is called. They are kept until then
-/// in a hidden file beside it, which is made by the first write.
+/// A writer whose bytes replace a file all at once, when [`end`](Replacement::end) is called. Until then they are kept in a hidden file
+/// next to it, which is made by the first write, or by `end` if there was none.
 #[derive(Drop)]
 pub struct Replacement<'a, R: Files> {
     files: &'a R,
     path: String,
-    /// The permissions of the file that is replaced, where it is there.
+    /// The permissions of the file that is replaced, if it exists.
     permissions: Option<Permissions>,
     part: Option<Part<R::File>>,
 }
@@ -36,8 +36,10 @@ struct Part<F> {
 }
 
 impl<'a, R: Files + AllocGlobal> Replacement<'a, R> {
-    /// Replaces the file of this name, or the one that a link of this name leads to. It need not be there; what is there and is no
-    /// regular file is a [`StreamFault::Write`].
+    /// A replacement of the file of this name, or of the one that a link of this name leads to. The file need not exist.
+    ///
+    /// Fails with [`StreamFault::Memory`] if an allocation fails, and with [`StreamFault::Write`] if what has this name is no regular
+    /// file, or can't be asked about.
     pub fn of(files: &'a R, name: &str) -> Result<Replacement<'a, R>, StreamFault> {
         let path = real_path(files, name).map_err(write_fault)?;
         let permissions = permissions_of(files, path.as_str()).map_err(write_fault)?;
@@ -49,8 +51,8 @@ impl<'a, R: Files + AllocGlobal> Replacement<'a, R> {
         })
     }
 
-    /// Ends the writing, of which `done` says what came. Where that is a fault, what was written is removed again, and the file
-    /// stays as it was; so it is after a fault of its own, which is then given.
+    /// Ends the writing, of which `done` is the result. If that is a fault, what was written is removed, the file is left as it was, and
+    /// the fault is returned. After a fault of its own, [`StreamFault::Memory`] or [`StreamFault::Write`], it does the same.
     pub fn end(mut self, done: Result<bool, StreamFault>) -> Result<bool, StreamFault>
         ensures same { IfOk result (λ refused. done ≡ Ok refused) }
         ensures failed { IfErr done (λ fault. result ≡ Err fault) }
@@ -97,7 +99,7 @@ impl<'a, R: Files + AllocGlobal> Replacement<'a, R> {
         }
     }
 
-    /// Makes the file that is written, where that isn't done yet.
+    /// Makes the file that is written, unless that is done already.
     fn begin(&mut self) -> io::Result<()> {
         if self.part.is_none() {
             let part = self.new_part()?;
@@ -147,7 +149,7 @@ impl<'a, R: Files + AllocGlobal> Write for Replacement<'a, R> {
     }
 }
 
-/// Where the links of a name lead, or the name itself where nothing is there.
+/// Where the links of a name lead, or the name itself if nothing is there.
 fn real_path<R: Files + AllocGlobal>(files: &R, name: &str) -> io::Result<String> {
     match fs::canonicalize(files, name) {
         Ok(path) => Ok(path.into_string()),
@@ -158,7 +160,7 @@ fn real_path<R: Files + AllocGlobal>(files: &R, name: &str) -> io::Result<String
     }
 }
 
-/// The permissions of a regular file, or none where nothing is there.
+/// The permissions of a regular file, or `None` if nothing is there.
 fn permissions_of<R: Files>(files: &R, path: &str) -> io::Result<Option<Permissions>> {
     match fs::metadata(files, path) {
         Ok(found) if found.is_file() => Ok(Some(found.permissions())),
@@ -168,7 +170,7 @@ fn permissions_of<R: Files>(files: &R, path: &str) -> io::Result<Option<Permissi
     }
 }
 
-/// The path of a hidden file beside another, whose name doesn't end in `.ics`: `box/.desk.ics.0.part` beside `box/desk.ics`.
+/// The path of a hidden file next to another, whose name doesn't end in `.ics`: `box/.desk.ics.0.part` next to `box/desk.ics`.
 fn part_path(alloc: Global, path: &str, number: u32) -> Result<String, AllocError> {
     match path.rsplit_once('/') {
         Some((folder, name)) => format!(in alloc; "{folder}/.{name}.{number}.part"),
@@ -176,8 +178,7 @@ fn part_path(alloc: Global, path: &str, number: u32) -> Result<String, AllocErro
     }
 }
 
-/// Has the system write down the folder of a path, so that a rename in it stays if the machine fails. Where it can't, the file is
-/// there all the same.
+/// Syncs the folder of a path, so that a rename in it survives a crash of the machine. If that fails, the file is there all the same.
 fn sync_folder<R: Files>(files: &R, path: &str) {
     let folder = match path.rsplit_once('/') {
         Some(("", _)) => "/",

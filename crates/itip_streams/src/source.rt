@@ -10,8 +10,8 @@ use std::io::Read;
 use std::rt::Files;
 use std::{fs, io};
 
-/// A reader of a source. A file is opened when it is first read, and closed as soon as a read gives no octet; from then on reads
-/// give none.
+/// A reader of a source. A file is opened when it is first read, and closed as soon as a read returns no bytes; from then on reads
+/// return none. Each read of an unreadable source fails.
 #[derive(Drop)]
 pub struct Source<'a, R: Files, I> {
     files: &'a R,
@@ -23,14 +23,14 @@ pub struct Source<'a, R: Files, I> {
 pub(crate) enum Held<'a, F, I> {
     /// A file that isn't opened yet.
     Closed(&'a str),
-    /// A file, or nothing once it was closed at its end.
+    /// A file, or `None` once it has been closed at its end.
     File(Option<F>),
     Input(Option<I>),
     /// Each read fails.
     Nothing,
 }
 
-/// The sources of these names, each beside its name.
+/// The sources of these names, in the order of the names. Fails if an allocation fails.
 pub fn sources_of<'a, R: Files + Input + AllocGlobal>(
     rt: &'a R,
     names: &'a [SourceName],
@@ -65,7 +65,7 @@ fn source_of<'a, R: Files + Input>(rt: &'a R, name: &'a SourceName) -> Source<'a
 }
 
 impl<'a, R: Files, I: Read + Drop> Source<'a, R, I> {
-    /// Opens the file, where that isn't done yet.
+    /// Opens the file, unless that is done already.
     fn open(&mut self) -> io::Result<()>
         ensures { Keeps (left_of R.File.remaining I.remaining self.old.held) (left_of R.File.remaining I.remaining self.new.held) }
     {
@@ -92,7 +92,7 @@ impl<'a, R: Files, I: Read + Drop> Read for Source<'a, R, I> {
     }
 }
 
-/// Reads from a reader that is dropped as soon as a read gives no octet. From then on reads give none.
+/// Reads from a reader that is dropped as soon as a read returns no bytes. From then on reads return none.
 fn read_and_drop<R: Read + Drop>(reader: &mut Option<R>, buf: &mut [u8]) -> io::Result<usize>
     ensures bound { ReadsAtMost result buf.new }
     ensures bytes { ReadConsumes (left R.remaining reader.old) (left R.remaining reader.new) result buf.new }

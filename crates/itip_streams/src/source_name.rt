@@ -1,4 +1,4 @@
-//! What a source is called, and what is said of it.
+//! The names of sources, and what is said of them.
 ghost use Rattle.std.specs.Prelude.{◌≡◌, Some, None, IfOk};
 ghost use Rattle.std.specs.Option.{option_copied};
 ghost use Rattle.std.specs.String.{string_bytes};
@@ -8,19 +8,19 @@ ghost use Rattle.itip_streams.specs.Visible.{visible};
 use crate::visible::visible_text;
 use std::alloc::{AllocError, Global};
 
-/// What a source is, by its name.
+/// A source, by its name.
 #[derive(Drop)]
 pub enum SourceName {
     /// Standard input.
     StandardInput,
     /// The file of this name.
     File(String),
-    /// What can't be read, under the name by which that is told.
+    /// Something that can't be read, and the name to report it by.
     Unreadable(String),
 }
 
 impl SourceName {
-    /// What it is called where it can't be read.
+    /// The name to report it by if it can't be read.
     pub fn as_str(&self) -> &str
         ensures { result.now ≡ called self.now }
     {
@@ -31,7 +31,8 @@ impl SourceName {
         }
     }
 
-    /// Where a message stands, by its number from 1: `message N` of standard input, `NAME message N` of a file.
+    /// The place of a message, by its number from 1: `message N` in standard input, `NAME message N` in a file. Fails if an allocation
+    /// fails.
     pub fn place_of(&self, alloc: Global, message: u64) -> Result<String, AllocError>
         ensures { IfOk result (λ place. string_bytes place ≡ place_of self.now message) }
     {
@@ -49,8 +50,8 @@ fn message_of(alloc: Global, name: &str, message: u64) -> Result<String, AllocEr
     Ok(format!(in alloc; "{name} message {message}")?)
 }
 
-/// The line that says of a message, by its number from 1, that it was refused under a number, and why, where that is given:
-/// `NAME message 2: refused 9: DTSTAMP is missing`. Control characters are shown as their octets.
+/// The line that says that a message, by its number from 1, was refused with a number, and why if that is given:
+/// `NAME message 2: refused 9: DTSTAMP is missing`. Control characters are shown as their bytes. Fails if an allocation fails.
 pub fn refused_line(
     alloc: Global,
     name: &SourceName,
@@ -91,7 +92,8 @@ fn unexplained(alloc: Global, place: &str, number: u32) -> Result<String, AllocE
     Ok(format!(in alloc; "{place}: refused {number}")?)
 }
 
-/// What is said of a source that can't be read: `NAME: read failed`. Control characters are shown as their octets.
+/// The line about a source that can't be read: `NAME: read failed`. Control characters are shown as their bytes. Fails if an allocation
+/// fails.
 pub fn unread_line(alloc: Global, name: &SourceName) -> Result<String, AllocError>
     ensures { IfOk result (λ line. string_bytes line ≡ visible (unread (called name.now))) }
 {

@@ -8,7 +8,8 @@ use std::alloc::Global;
 use std::io;
 use std::io::Write;
 
-/// Writes control characters as their octets, but for line ends. Each write is shown by itself, so it has to have whole characters.
+/// Writes control characters, except for line ends, as their bytes: `\x07`. Each write is shown by itself, so it has to consist of whole
+/// characters.
 #[derive(Drop)]
 pub struct TerminalWriter<W> {
     alloc: Global,

@@ -1,4 +1,4 @@
-//! Control characters, shown as their octets.
+//! Control characters, shown as their bytes.
 ghost use Rattle.std.specs.Prelude.{◌≡◌, ◌<◌, ◌++◌, IfOk, OnOk};
 ghost use Rattle.std.specs.String.{string_bytes};
 ghost use Rattle.std.specs.Char.{digit_char};
@@ -7,7 +7,8 @@ ghost use Rattle.itip_streams.specs.Visible.{is_hidden, is_of_control, is_of_c1,
 
 use std::alloc::{AllocError, Global};
 
-/// The text with each control character (C0, DEL and C1) as its octets, `\x0a` or `\xc2\x85`, and everything else as it stands.
+/// A text with each control character (C0, DEL and C1) as its bytes, `\x0a` or `\xc2\x85`, and everything else as it is. Fails if an
+/// allocation fails.
 pub fn visible_text(alloc: Global, text: &str) -> Result<String, AllocError>
     ensures { IfOk result (λ shown. string_bytes shown ≡ visible text.now) }
 {
@@ -15,14 +16,14 @@ pub fn visible_text(alloc: Global, text: &str) -> Result<String, AllocError>
     String::from_utf8_lossy(alloc, octets.as_slice())
 }
 
-/// The octets of a text in the same form, line ends among the control characters.
+/// The bytes of a text in the form of [`visible_text`], line ends among the control characters. Fails if an allocation fails.
 pub fn visible_octets(alloc: Global, octets: &[u8]) -> Result<Vec<u8>, AllocError>
     ensures { IfOk result (λ shown. shown.items ≡ visible octets.now) }
 {
     shown_octets(alloc, octets, false)
 }
 
-/// The octets of a text with each control character as its octets, but for line ends: LF, and CR before LF.
+/// The bytes of a text with each control character as its bytes, except for line ends: LF, and CR before LF.
 pub(crate) fn visible_lines(alloc: Global, octets: &[u8]) -> Result<Vec<u8>, AllocError>
     ensures { IfOk result (λ shown. shown.items ≡ visible_lines octets.now) }
 {
@@ -43,7 +44,7 @@ fn shown_octets(alloc: Global, octets: &[u8], keeps_line_ends: bool) -> Result<V
     Ok(shown)
 }
 
-/// Appends what is shown of an octet, where `before` stands before it and `after` behind it.
+/// Appends what is shown of an octet between `before` and `after`.
 fn push_shown(
     shown: &mut Vec<u8>,
     keeps_line_ends: bool,

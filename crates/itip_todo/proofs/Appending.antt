@@ -34,7 +34,7 @@ each_then limit [] ys old mid new first second = subst (λ (o : List ℕ). Appen
 each_then limit (x ∷ xs) ys old mid new (inl on) second = inl (each_then limit xs ys (old ++ content_octets x) mid new on second)
 each_then limit (x ∷ xs) ys old mid new (inr out) second = inr (out.0, each_then limit xs ys old mid new out.1 second)
 
--- with octets in front of what stood there, and as many more in the limit
+-- with octets before what was there, and as many more in the limit
 pub each_behind : (limit room : ℕ) (front : List ℕ) → room + length front ≡ limit → (lines : List Content) (old new : List ℕ) →
     AppendsEach room lines old new → AppendsEach limit lines (front ++ old) (front ++ new)
 each_behind limit room front sum [] old new same = ap (λ (octets : List ℕ). front ++ octets) same
@@ -61,7 +61,7 @@ appends_all limit contents old new is =
       over = λ long. subst (λ (octets : List ℕ). limit < length octets) is long;
     }
 
--- what has more octets than the limit has more with the lines behind it
+-- what has more octets than the limit has more with the lines after it
 over_behind : (limit : ℕ) (xs ys : List Content) (old : List ℕ) → limit < length (old ++ contents_octets xs) →
     limit < length (old ++ contents_octets (xs ++ ys))
 over_behind limit xs ys old long =
@@ -70,7 +70,7 @@ over_behind limit xs ys old long =
     let both = length-append front (contents_octets ys) in
     omega (arith, same, both, long)
 
--- lines behind lines
+-- lines after lines
 pub then_up_to : (limit : ℕ) (xs ys : List Content) (old mid new : List ℕ) → AppendsUpTo limit xs old mid → AppendsUpTo limit ys mid new →
     AppendsUpTo limit (xs ++ ys) old new
 then_up_to limit xs ys old mid new first second = record {
@@ -114,7 +114,7 @@ pub finished : {A : Type 0} (f : A → Content) (xs : List A) (limit i : ℕ) (o
 finished {A} f xs limit i old now done is =
     appends_all limit (map f xs) old now (is ∙ ap (λ (ys : List A). old ++ contents_octets (map f ys)) (take_all i xs done))
 
--- These lines are left to write: the others stand behind what stood there.
+-- These lines are left to write: the others follow what was there.
 pub record Leaves (contents : List Content) (old now : List ℕ) (left : List Content) : Type 0 where
   pub done : List Content
   pub all : done ++ left ≡ contents
@@ -255,7 +255,7 @@ parts_are parts =
     (before (summary_lines parts) (organizer_on parts) (organizer_on few) lists
     (before (organizer_lines parts) lists [] lists refl)))))))))
 
--- the lines of a to-do are those up to ORGANIZER and those behind it
+-- the lines of a to-do are those up to ORGANIZER and those after it
 pub front_and_rest : (parts : Parts) → todo_contents parts ≡ front_contents parts ++ rest_contents parts
 front_and_rest parts =
     let ends : List Content = bare (codes "END") (codes "VTODO") ∷ [] in

@@ -1,4 +1,4 @@
--- Moments with commas between: no comma stands in a moment, and so a text is cut at its commas in one way.
+-- Moments with commas between them: a moment has no comma, and so a text is cut at its commas in one way.
 use Rattle.std.proofs.Common.{◌≡◌, ◌≢◌, ℕ, zero, suc, ◌+◌, ◌<◌, List, [], ◌∷◌, ◌++◌, length, get_or, refl, sym, subst, ◌∙◌, arith, Some}
 use Rattle.std.proofs.Common.{Option}
 use Rattle.std.specs.List.{AllByRecursion}
@@ -12,7 +12,7 @@ use Rattle.itip_todo.specs.Drafts.{HasNoComma}
 use Rattle.itip_todo.specs.Participation.{param_value}
 use Rattle.itip_todo.specs.Values.{IsMomentText, AreMoments}
 
--- every octet is a digit or behind the digits
+-- every octet is a digit or after the digits
 abbrev pub IsHigh : List ℕ → Type 0
 IsHigh text = AllByRecursion (λ c. 47 < c) text
 
@@ -85,7 +85,7 @@ no_comma_apart (x ∷ text) [] rest h e = let same : x ≡ 44 = cc in h 0 (omega
 no_comma_apart (x ∷ text) (c ∷ front) rest h e = let back : text ≡ front ++ 44 ∷ rest = cc in
     no_comma_apart text front rest (tail_no_comma x text h) back
 
--- behind the first comma the other moments are listed
+-- after the first comma the other moments are listed
 pub behind_comma : (params : List Param) (text front rest : List ℕ) (ms : List Moment) → text ≡ front ++ 44 ∷ rest → HasNoComma front →
     AreMoments params text ms
     → (first : Moment) × (later : List Moment) × (ms ≡ first ∷ later) × IsMomentText params front first × AreMoments params rest later

@@ -8,7 +8,7 @@ contents_octets-append [] ys = refl
 contents_octets-append (x ∷ xs) ys = ap (λ rest. content_octets x ++ rest) (contents_octets-append xs ys) ∙
     sym (append_assoc (content_octets x) (contents_octets xs) (contents_octets ys))
 
--- lines behind lines
+-- lines after lines
 pub then_lines : (old mid new : List ℕ) (xs ys : List Content) → mid ≡ old ++ contents_octets xs → new ≡ mid ++ contents_octets ys →
     new ≡ old ++ contents_octets (xs ++ ys)
 then_lines old mid new xs ys first second =

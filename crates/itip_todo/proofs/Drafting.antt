@@ -1,4 +1,4 @@
--- One more line of a property that may stand once, and of which none stood above.
+-- One more line of a property that may appear once, and has not appeared above.
 use Rattle.std.proofs.Common.{◌≡◌, ◌≢◌, ℕ, true, false, List, [], ◌∷◌, ◌++◌, refl, sym, subst, Bool, Option, Some, None}
 use Rattle.std.specs.Option.{is_some}
 use Rattle.itip_lines.specs.declared.line.Line.{Line}
@@ -27,14 +27,14 @@ taken P o None h some = absurd (some refl)
 taken P None (Some a) h some = absurd h
 taken P (Some line) (Some a) h some = refl
 
--- the value of a line whose property stood in none above
+-- the value of a line whose property has not appeared above
 pub put : {A : Type 0} (P : Line → A → Type 0) (lines : List Line) (line : Line) (old : Option A) (a : A) →
     IsOptional P (first_of lines) old → old ≡ None → P line a → IsOptional P (first_of (lines ++ line ∷ [])) (Some a)
 put P [] line old a h e here = here
 put P (l ∷ lines) line None a h e here = absurd h
 put P (l ∷ lines) line (Some b) a h e here = absurd cc
 
--- the value of a line of which no property stood above is bad
+-- the value of a line whose property has not appeared above is bad
 pub bad : (above : PropertyName → List Line) (p : PropertyName) (line : Line) (f : TodoCause) → f ≡ cause.BadValue p →
     is_twice above p ≡ false → has_bad_range p line ≡ false → (IsGoodValue p line → ⊥) → HasCauseAs above p line f
 bad above p line f e once range none = subst (λ (g : TodoCause). HasCauseAs above p line g) (sym e) (refl, once, range, none)
@@ -112,7 +112,7 @@ takes_base line d a none here = record {
     each above is name.DeskBase = put IsSequenceOf (above name.DeskBase) line d.base a (is name.DeskBase) none here
     each above is p = is p
 
--- the range of a line whose property stood in none above
+-- the range of a line whose property has not appeared above
 put_range : (lines : List Line) (line : Line) (b : Bool) → is_some (first_of lines) ≡ false → b ≡ has_range line →
     b ≡ range_of (first_of (lines ++ line ∷ []))
 put_range [] line b e here = here

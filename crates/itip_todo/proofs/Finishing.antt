@@ -67,7 +67,7 @@ lawful_line l p e few = subst (λ (n : List ℕ). line.IsLawful n l.params l.val
 lawful_plain : (l : Line) (p : PropertyName) → property_of l ≡ p → place_of p < 16 → line.IsLawful (name_text p) [] l.value
 lawful_plain l p e few = lawful_without_params (name_text p) l.params l.value (lawful_line l p e few)
 
--- the moment of a property that may stand once
+-- the moment of a property that may appear once
 one_moment : (lines : List Line) (p : PropertyName) (v : Option Moment) → place_of p < 16 → length (name_text p) ≤ 100 →
     IsOptional IsMomentOf (first_of (lines_of lines p)) v → (m : Moment) → v ≡ Some m → IsLawfulContent (moment_line p m)
 one_moment lines p v few short h m e =

@@ -1,4 +1,5 @@
--- Nothing is wrong with lines where each property that may stand once does, each value is good, and no two attendees are one.
+-- Nothing is wrong with lines if each property that may appear once appears at most once, each value is good, and no two attendees
+-- are the same.
 use Rattle.std.proofs.Common.{◌≡◌, ◌∙◌, ap, refl, sym, subst, ℕ, ◌<◌, ◌≤◌, Bool, true, false, cond, ◌&&◌, ◌||◌, List, [], ◌∷◌, ◌++◌, length}
 use Rattle.std.proofs.Common.{append_assoc, length-append, arith, map}
 use Rattle.std.specs.Prelude.{nat_le}
@@ -46,7 +47,7 @@ none_first (l ∷ ls) rest line h = absurd (let n = length-append ls (line ∷ r
 not_over : (n : ℕ) → n < attendee_limit → nat_le attendee_limit n ≡ false
 not_over n h = grind (arith)
 
--- of texts that are apart, none is the one behind them
+-- of texts that are apart, none is the one after them
 apart_from : (key : List ℕ) (keys rest : List (List ℕ)) → IsDistinct same_text (keys ++ key ∷ rest) → list_any (same_text key) keys ≡ false
 unfolding IsDistinct
 apart_from key [] rest h = refl

@@ -1,4 +1,4 @@
--- Properties that stand in a text, and in a longer one.
+-- Properties in a text, and in a longer one.
 use Rattle.std.proofs.Common.{◌≡◌, ◌∙◌, ◌≤◌, ◌+◌, ◌-◌, sym, ap, subst, ℕ, List, [], ◌∷◌, ◌++◌, length, map, take, drop, arith}
 use Rattle.std.proofs.Common.{append_assoc, length-append, ◌<◌, zero, suc, get_or}
 use Rattle.std.proofs.lemmas.List.{take_at, drop_at, take_all, take_more, take-append-le, drop-append-le, length-drop, map-append}
@@ -53,7 +53,7 @@ pub places_more : (text : List ℕ) (places : List Place) (place : Place) → Al
 places_more text [] place h one = (one, tt)
 places_more text (p ∷ ps) place h one = (h.0, places_more text ps place h.1 one)
 
--- ---- behind a text
+-- ---- after a text
 
 -- parameters, a colon and a value were appended, and this is their place
 pub record Appends (old params value text : List ℕ) (place : Place) : Type 0 where

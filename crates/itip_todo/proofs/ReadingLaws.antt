@@ -33,7 +33,7 @@ use Rattle.itip_todo.proofs.Commas.{behind_comma, no_comma_one, no_comma_at, spe
 use Rattle.itip_todo.proofs.SameTodo.{same_todo}
 use Rattle.itip_todo.proofs.Sets.{contains_any, itself, only_at}
 
--- values that stand so to one line are one
+-- values in this relation to one line are equal
 
 one_optional : {A : Type 0} (P : Line → A → Type 0) → ((line : Line) (a b : A) → P line a → P line b → a ≡ b) →
     (o : Option Line) (v w : Option A) → IsOptional P o v → IsOptional P o w → v ≡ w

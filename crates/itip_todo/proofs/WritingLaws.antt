@@ -109,7 +109,7 @@ number_of limit p l n h small e = subst (λ (c : Content). IsNumberUpTo limit c.
 moment_of : (p : PropertyName) (l : Line) (m : Moment) → content_of l ≡ moment_line p m → IsMomentOf l m
 moment_of p l m e = subst (λ (c : Content). IsMomentText c.params c.value m) (sym e) (moment_back m)
 
--- a range stands only beside a moment
+-- there is a range only beside a moment
 range_read : (lines : List Line) (v : Option Moment) (b : Bool) → map content_of lines ≡ optional (rid_line b) v →
     (IsTrue b → IsTrue (is_some v)) → b ≡ range_of (first_of lines)
 range_read [] None true e h = absurd (let none : false ≡ true = h refl in cc)

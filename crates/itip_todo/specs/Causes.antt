@@ -1,4 +1,4 @@
--- The error of a line whose place its reader has yet to say (our own form).
+-- The error of a line whose place the caller has yet to add (our own form).
 use Rattle.std.specs.Prelude.{ℕ, Some}
 use Rattle.itip_todo.specs.declared.error.CauseError.{CauseError}
 use Rattle.itip_todo.specs.declared.error.CauseError.TheVariants as cause_error
@@ -6,7 +6,7 @@ use Rattle.itip_todo.specs.declared.error.TodoCause.{TodoCause}
 use Rattle.itip_todo.specs.declared.error.TodoError.{TodoError}
 use Rattle.itip_todo.specs.declared.error.TodoError.TheVariants as error
 
--- of an error: nothing where memory was refused, and otherwise P of the cause
+-- if the error is a cause, P holds of it; of a failed allocation nothing is said
 abbrev pub IfCause : CauseError → (TodoCause → Type 0) → Type 0
 IfCause cause_error.NoMemory P = Unit {0}
 IfCause (cause_error.Cause c) P = P c

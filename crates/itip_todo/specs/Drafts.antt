@@ -34,17 +34,17 @@ pub record IsSetOf (lines : List Line) (set : BTreeSet Moment) : Type 0 where
   pub list : ListMoments lines listed
   pub each : (m : Moment) → contains moment_cmp set m ≡ is_listed listed m
 
--- no comma (44) stands in the text
+-- the text has no comma (44)
 abbrev pub HasNoComma : List ℕ → Type 0
 HasNoComma text = (i : ℕ) → i < length text → slice_index text i ≢ 44
 
--- the moment that the text spells beside this zone was put into the set
+-- the moment that the text spells with this zone was inserted into the set
 pub record PutsMoment (text zone : List ℕ) (old new : BTreeSet Moment) : Type 0 where
   pub moment : Moment
   pub is : MomentText text (Some zone) moment
   pub each : (m : Moment) → contains moment_cmp new m ≡ (contains moment_cmp old m || eq_by_cmp moment_cmp moment m)
 
--- the moments that the text lists beside these parameters were put into the set
+-- the moments that the text lists with these parameters were inserted into the set
 pub record PutsMoments (params : List Param) (text : List ℕ) (old new : BTreeSet Moment) : Type 0 where
   pub listed : List Moment
   pub are : AreMoments params text listed
@@ -58,7 +58,7 @@ pub record HoldsAttendees (lines : List Line) (attendees : List Property) (set :
   pub distinct : IsDistinct same_text (map key_of lines)
   pub keys : (key : List ℕ) → contains (slice_cmp nat_cmp) set key ≡ list_any (same_text key) (map key_of lines)
 
--- what a draft holds of a property, where these are its lines
+-- what a draft holds of a property, if these are its lines
 abbrev pub Holds : Draft → PropertyName → List Line → Type 0
 Holds draft name.Uid lines = IsOptional IsUidOf (first_of lines) draft.uid
 Holds draft name.DtStamp lines = IsOptional IsStampOf (first_of lines) draft.stamp
@@ -78,7 +78,7 @@ Holds draft name.RDate lines = IsSetOf lines draft.rdates
 Holds draft name.ExDate lines = IsSetOf lines draft.exdates
 Holds draft name.Others lines = draft.others ≡ lines
 
--- what a draft holds, where these lines of each property stand above
+-- what a draft holds, if these are the lines of each property above
 abbrev pub IsDraftOf : (PropertyName → List Line) → Draft → Type 0
 IsDraftOf above draft = (p : PropertyName) → Holds draft p (above p)
 
@@ -86,7 +86,7 @@ IsDraftOf above draft = (p : PropertyName) → Holds draft p (above p)
 abbrev pub more : (PropertyName → List Line) → PropertyName → Line → PropertyName → List Line
 more above p line q = cond (is_same p q) (above q ++ line ∷ []) (above q)
 
--- a good line, which is read as p, is taken into the draft
+-- a good line that is read as p is taken into the draft
 pub record Takes (p : PropertyName) (line : Line) (old new : Draft) : Type 0 where
   pub good : (above : PropertyName → List Line) → IsDraftOf above old → IsGoodAs above p line
   pub draft : (above : PropertyName → List Line) → IsDraftOf above old → IsDraftOf (more above p line) new

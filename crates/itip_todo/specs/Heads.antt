@@ -2,7 +2,7 @@
 use Rattle.std.specs.Prelude.{◌≡◌, ◌+◌, ◌*◌, ◌<◌, ℕ, zero, suc, List, [], ◌∷◌}
 use Rattle.std.specs.Prelude.{slice_index}
 
--- The number that the next so many octets spell behind n, the most significant first. Where the text has ended, 0 stands for an octet.
+-- The number that n and this many more octets spell, the most significant first. Past the end of the text an octet is 0.
 abbrev pub head_from : ℕ → ℕ → List ℕ → ℕ
 head_from n zero _ = n
 head_from n (suc left) [] = head_from (n * 256) left []
@@ -16,7 +16,7 @@ head_of text = head_from 0 16 text
 abbrev pub AreOctets : List ℕ → Type 0
 AreOctets text = (place : ℕ) → slice_index text place < 256
 
--- The number stands for the first octets of the text, of which each place holds an octet.
+-- The number is that of the first octets of the text, in which each place holds an octet.
 pub record IsHead (head : ℕ) (text : List ℕ) : Type 0 where
   pub number : head ≡ head_of text
   pub octets : AreOctets text

@@ -1,4 +1,4 @@
--- What a to-do keeps of itself: the values, counts and orders of the table of properties (RFC 5545 3.6.2; the limits
+-- What holds of every to-do: the values, counts and orders of the table of properties (RFC 5545 3.6.2; the limits
 -- and orders are our own).
 use Rattle.std.specs.Prelude.{◌≡◌, ◌≤◌, ◌<◌, ℕ, List, length, map, IsTrue, Some}
 use Rattle.std.specs.Option.{is_some}
@@ -35,12 +35,12 @@ pub record IsLawful (parts : Parts) : Type 0 where
   pub organizer : (p : Property) → parts.organizer ≡ Some p → HasValue p
   pub attendee_count : length parts.attendees ≤ attendee_limit
   pub attendee_values : AllByRecursion HasValue parts.attendees
-  -- no two attendees are one
+  -- no two attendees are the same
   pub attendee_keys : IsDistinct same_text (keys_of parts.attendees)
-  -- each moment once, in their order
+  -- each moment once, in ascending order
   pub rdates : IsStrictlySortedBy moment_cmp parts.rdates
   pub exdates : IsStrictlySortedBy moment_cmp parts.exdates
-  -- a line of no property of the table, or of RDATE with `/` in its value
+  -- lines of properties that are not in the table, or of RDATE with `/` in its value
   pub others : IsTrue (list_all is_other parts.others)
   -- each line that it is written as is a lawful content line
   pub lines : AllByRecursion IsLawfulContent (parts_contents parts)

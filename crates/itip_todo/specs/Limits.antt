@@ -7,10 +7,10 @@ pub record Limits : Type 0 where
   pub ranges : Bool
   pub attendees : ℕ
 
--- as to-dos are read
+-- as to-dos are read now
 abbrev pub present : Limits
 present = record { ranges = true; attendees = attendee_limit }
 
--- as they were read before: RANGE of any value was refused, and more than 500 attendees were
+-- as they were read before: RANGE of any value was refused, and so were more than 500 attendees
 abbrev pub before_ranges : Limits
 before_ranges = record { ranges = false; attendees = 500 }

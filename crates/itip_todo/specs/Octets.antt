@@ -6,8 +6,8 @@ use Rattle.itip_todo.specs.Reading.{ReadsTodo}
 use Rattle.itip_todo.specs.Written.{content_of, contents_octets, bare}
 use Rattle.itip_todo.specs.declared.todo.Todo.{Todo}
 
--- The octets are those of these lines, and are read as them within the limits of a text; and those inside BEGIN:VTODO
--- and END:VTODO are read as this to-do.
+-- The octets are those of these lines, and are read as them within the limits of a text; and the lines between
+-- BEGIN:VTODO and END:VTODO are read as this to-do.
 pub record AreReadAs (octets : List ℕ) (todo : Todo) : Type 0 where
   pub lines : List Line
   pub inside : List Line

@@ -7,7 +7,7 @@ use Rattle.itip_todo.specs.declared.attendee.PartStat.{PartStat}
 use Rattle.itip_todo.specs.declared.attendee.PartStat.TheVariants.{NeedsAction, Accepted, Declined, Tentative, Delegated, Completed}
 use Rattle.itip_todo.specs.declared.attendee.PartStat.TheVariants.{InProcess}
 
--- the participation of this name in lower case; any other name is NEEDS-ACTION
+-- the participation with this name in lower case; any other name is NEEDS-ACTION
 abbrev pub partstat_named : List ℕ → PartStat
 partstat_named name =
     cond (same_text name (codes "accepted")) Accepted

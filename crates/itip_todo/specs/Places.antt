@@ -1,4 +1,4 @@
--- Where properties stand in a text (our own form).
+-- Where properties are in a text (our own form).
 use Rattle.std.specs.Prelude.{◌≡◌, ◌≤◌, ◌<◌, ◌+◌, ℕ, List, ◌∷◌, ◌++◌, length, slice_range}
 use Rattle.std.specs.Str.{IsUtf8}
 use Rattle.itip_lines.specs.ParamsText.{params_in, IsParamsText}
@@ -15,11 +15,11 @@ value_at text place = slice_range text (place.colon + 1) place.end
 abbrev pub octets_at : List ℕ → Place → List ℕ
 octets_at text place = slice_range text place.start place.end
 
--- the property that stands there
+-- the property at this place
 abbrev pub property_at : List ℕ → Place → Property
 property_at text place = record { params = params_in (params_at text place); value = value_at text place }
 
--- A property stands there: the text of parameters, a colon (58), and a value.
+-- A property is at this place: the text of parameters, a colon (58), and a value.
 pub record IsPlaceIn (text : List ℕ) (place : Place) : Type 0 where
   pub begins : place.start ≤ place.colon
   pub parted : place.colon < place.end

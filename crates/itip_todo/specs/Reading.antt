@@ -42,7 +42,7 @@ first_of (line ∷ lines) = Some line
 abbrev pub first_named : PropertyName → List Line → Option Line
 first_named p lines = first_of (lines_of lines p)
 
--- the property may stand once, and stands above already
+-- the property may appear once, and appears above already
 abbrev pub is_twice : (PropertyName → List Line) → PropertyName → Bool
 is_twice above p = stands_once p && is_some (first_of (above p))
 
@@ -50,12 +50,12 @@ is_twice above p = stands_once p && is_some (first_of (above p))
 abbrev pub has_range : Line → Bool
 has_range line = str_eq_ignore_ascii_case (param_value (codes "RANGE") line.params) (codes "THISANDFUTURE")
 
--- whether RECURRENCE-ID, where it stands, has RANGE=THISANDFUTURE
+-- whether RECURRENCE-ID, if there is one, has RANGE=THISANDFUTURE
 abbrev pub range_of : Option Line → Bool
 range_of None = false
 range_of (Some line) = has_range line
 
--- RECURRENCE-ID with RANGE of another value, or of any where ranges are not allowed
+-- RECURRENCE-ID with a RANGE of another value, or of any value if ranges are not allowed
 abbrev pub has_bad_range_within : Limits → PropertyName → Line → Bool
 has_bad_range_within limits p line = is_same p name.RecurrenceId &&
     (list_any (λ (param : Param). same_text param.name (codes "RANGE")) line.params && not (limits.ranges && has_range line))
@@ -77,7 +77,7 @@ key_of line = attendee_key line.value
 abbrev pub is_same_attendee : (PropertyName → List Line) → PropertyName → Line → Bool
 is_same_attendee above p line = is_same p name.Attendee && list_any (same_text (key_of line)) (map key_of (above name.Attendee))
 
--- nothing is wrong with a line that is read as p within these limits, where these lines of each property stand above it
+-- nothing is wrong with a line that is read as p within these limits, if these are the lines of each property above it
 pub record IsGoodWithin (limits : Limits) (above : PropertyName → List Line) (p : PropertyName) (line : Line) : Type 0 where
   pub once : is_twice above p ≡ false
   pub range : has_bad_range_within limits p line ≡ false
@@ -88,7 +88,7 @@ pub record IsGoodWithin (limits : Limits) (above : PropertyName → List Line) (
 abbrev pub IsGoodAs : (PropertyName → List Line) → PropertyName → Line → Type 0
 IsGoodAs = IsGoodWithin present
 
--- what is wrong with a line that is read as p: the first of twice, another RANGE, a bad value, too many, and one attendee twice
+-- what is wrong with a line that is read as p, the first of: twice, another RANGE, a bad value, too many, the same attendee
 abbrev pub HasCauseAs : (PropertyName → List Line) → PropertyName → Line → TodoCause → Type 0
 HasCauseAs above p line (cause.Missing q) = ⊥
 HasCauseAs above p line (cause.Twice q) = (q ≡ p) × IsTrue (is_twice above p)
@@ -100,11 +100,11 @@ HasCauseAs above p line cause.SameAttendee =
     (is_twice above p ≡ false) × (has_bad_range p line ≡ false) × IsGoodValue p line × (is_too_many above p ≡ false) ×
     IsTrue (is_same_attendee above p line)
 
--- nothing is wrong with a line, where these stand above it
+-- nothing is wrong with a line, if these are above it
 abbrev pub IsGood : List Line → Line → Type 0
 IsGood above line = IsGoodAs (lines_of above) (property_of line) line
 
--- this is wrong with a line, where these stand above it
+-- this is wrong with a line, if these are above it
 abbrev pub HasCause : List Line → Line → TodoCause → Type 0
 HasCause above line c = HasCauseAs (lines_of above) (property_of line) line c
 
@@ -121,19 +121,19 @@ AreGood = AreGoodWithin present
 abbrev pub HasRefusal : List Line → NumberedLine → TodoRefusal → Type 0
 HasRefusal above l refusal = (refusal.line ≡ Some l.number) × HasCause above l.line refusal.cause
 
--- the refusal is that of the first line with which anything is wrong
+-- the refusal is that of the first faulty line
 abbrev pub FirstRefusal : List Line → List NumberedLine → TodoRefusal → Type 0
 FirstRefusal above [] refusal = ⊥
 FirstRefusal above (l ∷ ls) refusal = HasRefusal above l refusal ⊎ (IsGood above l.line × FirstRefusal (above ++ l.line ∷ []) ls refusal)
 
--- a value that may be absent: none, or one that stands so to the first line of the property
+-- a value that may be absent: absent if the property has no line, and else in this relation to its first line
 abbrev pub IsOptional : {A : Type 0} → (Line → A → Type 0) → Option Line → Option A → Type 0
 IsOptional P None None = Unit {0}
 IsOptional P None (Some value) = ⊥
 IsOptional P (Some line) None = ⊥
 IsOptional P (Some line) (Some value) = P line value
 
--- a number that counts as 0 where it is absent
+-- a number that counts as 0 if it is absent
 abbrev pub IsOrNought : (Line → ℕ → Type 0) → Option Line → ℕ → Type 0
 IsOrNought P None n = n ≡ 0
 IsOrNought P (Some line) n = P line n
@@ -178,7 +178,7 @@ ListMoments (line ∷ lines) moments =
     (here : List Moment) × (later : List Moment) × (moments ≡ here ++ later) × AreMoments line.params line.value here ×
     ListMoments lines later
 
--- these moments, each once and in their order, are those that the lines list
+-- these moments, each once and in ascending order, are those that the lines list
 pub record AreMomentsOf (lines : List Line) (moments : List Moment) : Type 0 where
   pub listed : List Moment
   pub list : ListMoments lines listed
@@ -211,7 +211,7 @@ pub record ReadsTodoWithin (limits : Limits) (lines : List Line) (todo : Todo) :
 abbrev pub ReadsTodo : List Line → Todo → Type 0
 ReadsTodo = ReadsTodoWithin present
 
--- a property is missing, which is the fault of no line
+-- a property is missing, which is not the fault of any line
 abbrev pub missing : PropertyName → TodoRefusal
 missing p = record { cause = cause.Missing p; line = None }
 
@@ -221,11 +221,11 @@ LacksProperty lines refusal =
     (AreGood [] lines × (first_named name.Uid lines ≡ None) × (refusal ≡ missing name.Uid))
     ⊎ (AreGood [] lines × (first_named name.Uid lines ≢ None) × (first_named name.DtStamp lines ≡ None) × (refusal ≡ missing name.DtStamp))
 
--- the lines are no to-do, for this cause and in this place: that of the first faulty line, and then what is missing
+-- the lines are refused, for this cause and in this place: those of the first faulty line, or else what is missing
 abbrev pub RefusesTodo : List NumberedLine → TodoRefusal → Type 0
 RefusesTodo lines refusal = FirstRefusal [] lines refusal ⊎ LacksProperty (plain_lines lines) refusal
 
--- of an error: nothing where memory was refused, and otherwise P of the refusal
+-- if the error is a refusal, P holds of it; of a failed allocation nothing is said
 abbrev pub IfRefused : TodoError → (TodoRefusal → Type 0) → Type 0
 IfRefused error.NoMemory P = Unit {0}
 IfRefused (error.Refused refusal) P = P refusal

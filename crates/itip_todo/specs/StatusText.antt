@@ -11,7 +11,7 @@ status_text status.Completed = codes "COMPLETED"
 status_text status.InProcess = codes "IN-PROCESS"
 status_text status.Cancelled = codes "CANCELLED"
 
--- the status of this name in lower case
+-- the status with this name in lower case
 abbrev pub status_named : List ℕ → Option Status
 status_named name =
     cond (same_text name (codes "needs-action")) (Some status.NeedsAction)

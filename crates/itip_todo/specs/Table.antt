@@ -1,4 +1,4 @@
--- The names of the properties of a to-do, and how often each may stand (RFC 5545 3.6.2; X-DESK-BASE is our own).
+-- The names of the properties of a to-do, and how often each may appear (RFC 5545 3.6.2; X-DESK-BASE is our own).
 use Rattle.std.specs.Prelude.{◌≡◌, ◌<◌, ℕ, ◌==◌, Bool, cond, ◌&&◌, nat_lt, List, [], codes, map}
 use Rattle.std.specs.Char.{to_ascii_lowercase}
 use Rattle.std.specs.List.{list_any}
@@ -9,7 +9,7 @@ use Rattle.itip_todo.specs.declared.property_name.PropertyName.TheVariants.{Uid,
 use Rattle.itip_todo.specs.declared.property_name.PropertyName.TheVariants.{Status, PercentComplete, Priority, Summary, Organizer, Attendee}
 use Rattle.itip_todo.specs.declared.property_name.PropertyName.TheVariants.{RRule, RDate, ExDate, Others}
 
--- the name of a property as it is written; that of the others is not one name
+-- the name of a property as it is written; empty for the others, which have no single name
 abbrev pub name_text : PropertyName → List ℕ
 name_text Uid = codes "UID"
 name_text DtStamp = codes "DTSTAMP"
@@ -29,7 +29,7 @@ name_text RDate = codes "RDATE"
 name_text ExDate = codes "EXDATE"
 name_text Others = []
 
--- the property of this name, in upper case
+-- the property with this name, in upper case
 abbrev pub property_named : List ℕ → PropertyName
 property_named name =
     cond (same_text name (codes "UID")) Uid
@@ -72,7 +72,7 @@ place_of Others = 16
 abbrev pub is_same : PropertyName → PropertyName → Bool
 is_same p q = place_of p == place_of q
 
--- one line of the property may stand, and no more: of ATTENDEE, RRULE, RDATE, EXDATE and the others there may be several
+-- the property may appear at most once; ATTENDEE, RRULE, RDATE, EXDATE and the others may appear several times
 abbrev pub stands_once : PropertyName → Bool
 stands_once p = nat_lt (place_of p) 12
 
@@ -99,15 +99,15 @@ percent_limit = 100
 abbrev pub priority_limit : ℕ
 priority_limit = 9
 
--- the most attendees of a to-do (our own limit)
+-- the maximum number of attendees of a to-do (our own limit)
 abbrev pub attendee_limit : ℕ
 attendee_limit = 2000
 
--- an attendee is named by the address with ASCII letters in lower case (our own rule)
+-- an attendee is identified by the address with ASCII letters in lower case (our own rule)
 abbrev pub attendee_key : List ℕ → List ℕ
 attendee_key address = map to_ascii_lowercase address
 
--- a property that is told apart by name is spelled by that name
+-- a property that is distinguished by name is spelled by that name
 abbrev pub IsSpelled : PropertyName → List ℕ → Type 0
 IsSpelled p name = place_of p < 16 → name ≡ name_text p
 
@@ -115,6 +115,6 @@ IsSpelled p name = place_of p < 16 → name ≡ name_text p
 abbrev pub is_rdate : Line → Bool
 is_rdate line = same_text line.name (codes "RDATE")
 
--- RDATE with `/` in its value stands among the lines of other properties: one with a period
+-- the lines of other properties have an RDATE: one with `/` in its value, a period
 abbrev pub has_period : List Line → Bool
 has_period lines = list_any is_rdate lines

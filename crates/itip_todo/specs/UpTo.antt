@@ -2,14 +2,14 @@
 use Rattle.std.specs.Prelude.{◌≡◌, ◌⊎◌, ◌<◌, ◌≤◌, ℕ, List, [], ◌∷◌, ◌++◌, length}
 use Rattle.itip_todo.specs.Written.{Content, content_octets, contents_octets}
 
--- each line in turn is appended to what stands there, or it is left out where that has more octets than the limit already
+-- each line in turn is appended to what is there, or is left out if that already has more octets than the limit
 abbrev pub AppendsEach : ℕ → List Content → List ℕ → List ℕ → Type 0
 AppendsEach limit [] old new = new ≡ old
 AppendsEach limit (line ∷ lines) old new =
     AppendsEach limit lines (old ++ content_octets line) new ⊎ ((limit < length old) × AppendsEach limit lines old new)
 
--- The octets of lines stand behind what stood there, in their order: of all lines where there are no more octets than the limit then;
--- and where there are more, all lines have more too.
+-- The octets of lines are appended to what was there, in their order: those of all lines if there are no more octets than the limit
+-- then; and if there are more, with all lines there are more too.
 pub record AppendsUpTo (limit : ℕ) (contents : List Content) (old new : List ℕ) : Type 0 where
   pub lines : AppendsEach limit contents old new
   pub grows : length old ≤ length new

@@ -14,29 +14,29 @@ use Rattle.itip_todo.specs.declared.property_name.PropertyName.{PropertyName}
 use Rattle.itip_todo.specs.declared.property_name.PropertyName.TheVariants as name
 use Rattle.itip_todo.specs.declared.status.Status.{Status}
 
--- noughts, one or more, behind a minus
+-- one or more zeros after a minus
 pub record AreNoughts (text : List ℕ) : Type 0 where
   pub noughts : List ℕ
   pub whole : text ≡ 45 ∷ noughts
   pub some : 0 < length noughts
   pub each : All (λ c. c ≡ 48) noughts
 
--- digits behind a plus or nothing, of this value, which is at most the limit
+-- digits, with or without a plus before them, of this value, which is at most the limit
 pub record AreDigitsUpTo (limit : ℕ) (text : List ℕ) (n : ℕ) : Type 0 where
   pub numeral : IsNumeral 10 (without_leading_plus text)
   pub value : n ≡ digits_value 10 (without_leading_plus text)
   pub small : n ≤ limit
 
--- a whole number of at most this value: a sign or none, and digits; behind a minus it can only be 0 (RFC 5545 3.3.8;
+-- a whole number of at most this value: an optional sign and digits; after a minus it can only be 0 (RFC 5545 3.3.8;
 -- the limits are our own)
 abbrev pub IsNumberUpTo : ℕ → List ℕ → ℕ → Type 0
 IsNumberUpTo limit text n = (AreNoughts text × (n ≡ 0)) ⊎ AreDigitsUpTo limit text n
 
--- a moment beside the zone that the parameters name: the first value of the first TZID; an empty one counts as absent
+-- a moment with the zone that the parameters name: the first value of the first TZID; an empty one counts as absent
 abbrev pub IsMomentText : List Param → List ℕ → Moment → Type 0
 IsMomentText params text moment = MomentText text (Some (param_value (codes "TZID") params)) moment
 
--- moments, at least one, with commas (44) between
+-- moments, at least one, with commas (44) between them
 abbrev pub AreMoments : List Param → List ℕ → List Moment → Type 0
 AreMoments params text [] = ⊥
 AreMoments params text (m ∷ []) = IsMomentText params text m

@@ -1,4 +1,4 @@
-//! One more line of a to-do.
+//! Taking one more line of a to-do.
 ghost use Rattle.std.specs.Prelude.{OnOk, IfErr};
 ghost use Rattle.itip_todo.specs.Drafts.{Takes, Refuses};
 ghost use Rattle.itip_todo.specs.Causes.{IfCause};
@@ -15,7 +15,7 @@ use crate::single::{
 use itip_lines::SeenLine;
 use std::alloc::Global;
 
-/// Takes one more line.
+/// Takes one more line into a draft.
 pub(crate) fn add_line(
     alloc: Global,
     draft: &mut Draft,

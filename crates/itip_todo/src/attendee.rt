@@ -44,7 +44,7 @@ impl fmt::Display for PartStat {
     }
 }
 
-/// The participation that an attendee's parameters give: the first value of the first PARTSTAT.
+/// The participation in an attendee's parameters: the first value of the first PARTSTAT, ignoring case.
 pub fn participation(attendee: &Property) -> PartStat
     ensures { result ≡ partstat_of attendee.now.params }
 {
@@ -66,9 +66,11 @@ pub fn participation(attendee: &Property) -> PartStat
     }
 }
 
-/// The key that tells an attendee from others: the address with ASCII letters in lower case (our own rule).
+/// The key that identifies an attendee: the address with ASCII letters in lower case (our own rule).
 pub fn attendee_key(alloc: Global, address: &str) -> Result<Text, NoMemory>
     ensures { IfOk result (λ key. key ≡ attendee_key address.now) }
 {
-    Text::lower(alloc, address)
+    let mut key = Text::copy(alloc, address)?;
+    key.make_ascii_lowercase();
+    Ok(key)
 }

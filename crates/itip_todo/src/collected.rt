@@ -11,7 +11,7 @@ use std::alloc::Global;
 use std::marker::Model;
 use std::sync::Arc;
 
-/// Properties, in order, that stand in one text: one more takes its octets and a fixed number.
+/// Properties in order, stored in one text: each takes its own octets and a fixed number more.
 #[derive(Drop)]
 pub(crate) struct Collected {
     text: Vec<u8>,
@@ -36,7 +36,7 @@ impl Model for Collected {
 }
 
 impl Collected {
-    /// No property. It takes no memory.
+    /// No properties. Does not allocate.
     pub(crate) fn new(alloc: Global) -> Collected
         ensures { result ≡ [] }
     {
@@ -46,14 +46,14 @@ impl Collected {
         }
     }
 
-    /// How many there are.
+    /// The number of properties.
     pub(crate) fn len(&self) -> usize
         ensures { result ≡ length self.now }
     {
         self.places.len()
     }
 
-    /// Adds the value of a line with its parameters.
+    /// Appends the value of a line with its parameters.
     pub(crate) fn push(&mut self, line: &SeenLine<'_>) -> Result<(), NoMemory>
         ensures { OnOk result (self.new ≡ self.old ++ record { params = line.now.params; value = line.now.value } ∷ []) }
     {
@@ -62,7 +62,7 @@ impl Collected {
         Ok(())
     }
 
-    /// The properties, which share their text. It has no spare room. No property takes no memory.
+    /// The properties, which share a text without spare capacity. Does not allocate if there are none.
     pub(crate) fn into_list(self, alloc: Global) -> Result<ListOf<Property>, NoMemory>
         ensures { IfOk result (λ list. list ≡ self) }
     {

@@ -1,4 +1,4 @@
-//! Copies of a to-do's parts, each equal to what it was made of.
+//! Copies of a to-do's parts, each equal to the original.
 ghost use Rattle.std.specs.Prelude.{◌≡◌, IfOk};
 
 use crate::property::Property;
@@ -7,7 +7,7 @@ use crate::uid::Uid;
 use itip_lines::{LineList, ListOf, NoMemory, TextList};
 use itip_moment::Moment;
 
-/// When a to-do is, and its recurrence id.
+/// The times of a to-do, and its recurrence id.
 #[derive(Drop)]
 pub(crate) struct Times {
     pub rid: Option<Moment>,
@@ -44,7 +44,7 @@ fn copy_subject(todo: &Todo) -> Result<Subject, NoMemory>
     })
 }
 
-/// The UID, when the to-do is, and what it is about.
+/// Copies the UID, the times and the subject of a to-do.
 pub(crate) fn copy_head(todo: &Todo) -> Result<(Uid, Times, Subject), NoMemory>
     ensures uid { IfOk result (λ copy. copy.0 ≡ todo.now.uid) }
     ensures times { IfOk result (λ copy. copy.1 ≡ record { rid = todo.now.rid; start = todo.now.start; due = todo.now.due }) }
@@ -53,7 +53,7 @@ pub(crate) fn copy_head(todo: &Todo) -> Result<(Uid, Times, Subject), NoMemory>
 {
     let uid = todo.uid.clone()?;
     let times = copy_times(todo)?;
-    // By a call: what is dropped in place is proved anew, field by field and case by case.
+    // An explicit call: an implicit drop would be proved anew, field by field and case by case.
     match copy_subject(todo) {
         Ok(subject) => Ok((uid, times, subject)),
         Err(refused) => {

@@ -10,7 +10,7 @@ use itip_moment::{Moment, Stamp};
 use std::alloc::Global;
 use std::collections::BTreeSet;
 
-/// The properties that stood in the lines so far.
+/// The properties of the lines so far.
 #[derive(Drop)]
 pub(crate) struct Draft {
     pub uid: Option<Uid>,
@@ -41,7 +41,7 @@ impl Draft {
     ghost use Rattle.itip_todo.specs.declared.property_name.PropertyName.{PropertyName};
     ghost use Rattle.itip_todo.specs.Drafts.{IsDraftOf};
 
-    /// What no line says.
+    /// The draft before the first line.
     pub(crate) fn new(alloc: Global) -> Draft
         ensures { IsDraftOf (λ (p : PropertyName). []) result }
     {

@@ -1,4 +1,4 @@
-//! Why lines are no to-do, and where.
+//! Why lines are not a to-do, and where.
 ghost use Rattle.std.specs.Prelude.{◌≡◌};
 ghost use Rattle.itip_todo.specs.Causes.{error_at};
 ghost use Rattle.itip_todo.specs.declared.error.TodoError.TheVariants.{NoMemory};
@@ -12,10 +12,10 @@ use thiserror::Error;
 /// What is wrong with the lines of a to-do.
 #[derive(Clone, Copy, PartialEq, Eq, Debug, Drop, Error)]
 pub enum TodoCause {
-    /// The property has to be there, and is not.
+    /// The property is required, and is missing.
     #[error("{0} is missing")]
     Missing(PropertyName),
-    /// The property may stand once, and stands again.
+    /// The property may appear once, and appears again.
     #[error("{0} stands twice")]
     Twice(PropertyName),
     /// The value is not one that the property may have.
@@ -27,12 +27,12 @@ pub enum TodoCause {
     /// There are too many attendees.
     #[error("there are too many attendees")]
     TooMany,
-    /// Two attendees have one address.
+    /// Two attendees have the same address.
     #[error("two attendees have one address")]
     SameAttendee,
 }
 
-/// Why lines are refused: what is wrong, and where. The first faulty line decides, and then what is missing.
+/// Why lines are refused: what is wrong, and where. The first faulty line decides; if there is none, what is missing.
 #[derive(Clone, Copy, PartialEq, Eq, Debug)]
 pub struct TodoRefusal {
     /// What is wrong.
@@ -50,18 +50,18 @@ impl fmt::Display for TodoRefusal {
 
 impl std::error::Error for TodoRefusal {}
 
-/// Why no to-do was given.
+/// Why no to-do could be read.
 #[derive(Debug, Drop, Error)]
 pub enum TodoError {
     /// An allocation failed.
     #[error("no memory to read a to-do")]
     NoMemory,
-    /// The lines are not those of a to-do.
+    /// The lines were refused, for this cause and in this place.
     #[error("{0}")]
     Refused(TodoRefusal),
 }
 
-/// Why a line was not taken. Its reader knows its place.
+/// Why a line was not taken. The caller knows its place.
 #[derive(Drop)]
 pub(crate) enum CauseError {
     NoMemory,
@@ -69,7 +69,7 @@ pub(crate) enum CauseError {
 }
 
 impl CauseError {
-    /// The error of the line of this number.
+    /// The error as that of the line with this number.
     pub(crate) fn at(self, line: usize) -> TodoError
         ensures { result ≡ error_at line self }
     {

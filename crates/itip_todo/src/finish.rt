@@ -1,4 +1,4 @@
-//! The to-do of all lines.
+//! From the draft of all lines to the to-do.
 ghost use Rattle.std.specs.Prelude.{◌≡◌, [], ℕ, List, None, Some, IfOk, OnOk, IfErr};
 ghost use Rattle.itip_todo.specs.declared.property_name.PropertyName.TheVariants as name;
 ghost use Rattle.std.specs.BTreeSet.{IsOrdered};
@@ -19,7 +19,7 @@ use itip_moment::{Moment, Stamp};
 use std::alloc::Global;
 use std::collections::BTreeSet;
 
-/// The to-do of the lines.
+/// The to-do of a draft. Refused if it has no UID, or else no DTSTAMP.
 pub(crate) fn finish(alloc: Global, draft: Draft) -> Result<Todo, TodoError>
     requires lawful { IsLawfulDraft draft }
     ensures found { IfOk result (λ todo. (lines : List Line) → AreGood [] lines → IsDraftOf (lines_of lines) draft → ReadsTodo lines todo) }
@@ -58,7 +58,7 @@ pub(crate) fn finish(alloc: Global, draft: Draft) -> Result<Todo, TodoError>
     })
 }
 
-/// What a to-do has to have, the sets of its moments in their order, and its lists that stand in one text each.
+/// What a to-do has to have, its sets of moments in ascending order, and its lists that are stored in one text each.
 #[derive(Drop)]
 struct Needed {
     uid: Uid,
@@ -110,7 +110,7 @@ fn values_of(
     })
 }
 
-/// The moments of a set, in their order.
+/// The moments of a set, in ascending order.
 fn sorted_moments(alloc: Global, set: BTreeSet<Moment>) -> Result<ListOf<Moment>, NoMemory>
     ensures list { IfOk result (λ list. list ≡ set.keys) }
     ensures ordered { OnOk result (IsOrdered moment_cmp set) }

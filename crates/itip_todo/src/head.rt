@@ -2,10 +2,10 @@
 ghost use Rattle.std.specs.Prelude.{◌≡◌, slice_index, drop};
 ghost use Rattle.itip_todo.specs.Heads.{IsHead};
 
-/// How many octets a head stands for.
+/// The number of octets in a head.
 const OCTETS: usize = 16;
 
-/// The number that the first 16 octets spell, the most significant first; where there are fewer, 0 stands in their place.
+/// The first 16 octets as one number, the most significant first; missing ones count as 0.
 pub(crate) fn head(octets: &[u8]) -> u128
     ensures { IsHead result octets.now }
 {
@@ -21,7 +21,7 @@ pub(crate) fn head(octets: &[u8]) -> u128
     head
 }
 
-/// The first octet, or 0 where there is none, and those behind it.
+/// The first octet, or 0 if there is none, and the octets after it.
 fn split(octets: &[u8]) -> (u8, &[u8])
     ensures first { result.0 ≡ slice_index octets.now 0 }
     ensures behind { result.1.now ≡ drop 1 octets.now }

@@ -1,4 +1,4 @@
-//! What holds of reading and writing. The functions do nothing: their contracts are the laws.
+//! Laws of reading and writing. The functions do nothing: their contracts are the laws.
 ghost use Rattle.std.specs.Prelude.{◌≡◌, ◌⊎◌, ◌↔◌, false, List, map, None};
 ghost use Rattle.itip_lines.specs.Reading.{plain_lines};
 ghost use Rattle.itip_lines.specs.declared.line.Line.{Line};
@@ -12,8 +12,8 @@ ghost use Rattle.itip_todo.specs.declared.error.TodoRefusal.{TodoRefusal};
 ghost use Rattle.itip_todo.specs.declared.property_name.PropertyName.{PropertyName};
 ghost use Rattle.itip_todo.specs.declared.todo.Todo.{Todo};
 
-/// Lines are read as one to-do, or they are refused for one cause in one place, and not both. What was read before instances had
-/// ranges is read as the same to-do, which has none.
+/// Lines are either read as exactly one to-do, or refused for exactly one cause, in one place unless a property is missing. What
+/// was read before instances had ranges is read as the same to-do, which has no range.
 pub fn reading_laws()
     ensures some { (lines : List NumberedLine)
         → ((todo : Todo) × ReadsTodo (plain_lines lines) todo) ⊎ ((refusal : TodoRefusal) × RefusesTodo lines refusal) }
@@ -28,7 +28,7 @@ pub fn reading_laws()
     ensures no_range { (lines : List Line) (todo : Todo) → ReadsTodoWithin before_ranges lines todo → todo.range ≡ false }
 {}
 
-/// The lines that a to-do is written as, between BEGIN and END, are read as this to-do.
+/// The lines that a to-do is written as, between BEGIN and END, are read back as this to-do.
 pub fn writing_laws()
     ensures read_again { (lines : List Line) (todo : Todo) → map content_of lines ≡ parts_contents (parts_of todo) → ReadsTodo lines todo }
 {}

@@ -1,7 +1,7 @@
 //! To-dos (RFC 5545 3.6.2): the lines of a VTODO are read into a `Todo`, and a `Todo` is written canonically.
 //!
-//! The table of properties, with how often each may stand and what its value may be, is in
-//! `specs/Table.antt`; the canonical octets of a to-do are in `specs/Written.antt`.
+//! The table of properties, with how often each may appear, is in `specs/Table.antt`, what their values may be in
+//! `specs/Values.antt`, and the canonical octets of a to-do in `specs/Written.antt`.
 #![tactic(auto)]
 
 mod add;

@@ -1,4 +1,4 @@
-//! Lines of the properties that may stand more than once.
+//! Lines of the properties that may appear more than once.
 ghost use Rattle.std.specs.Prelude.{◌≡◌, ◌≢◌, ◌++◌, ◌∷◌, List, Some, codes, option_copied, OnOk, IfOk, IfErr, MatchOption};
 ghost use Rattle.itip_moment.specs.declared.moment.Moment.{Moment};
 ghost use Rattle.itip_moment.specs.Spelling.{MomentText};
@@ -82,7 +82,7 @@ pub(crate) fn add_other(draft: &mut Draft, line: &SeenLine<'_>) -> Result<(), Ca
     Ok(())
 }
 
-/// Puts the moments of a line into a set; where the value is bad, perhaps a part of them.
+/// Inserts the moments of a line into a set. On an error, some of them may have been inserted.
 fn put_moments(
     alloc: Global,
     property: PropertyName,
@@ -96,12 +96,12 @@ fn put_moments(
     let tzid = line.first_value("TZID");
     let zone = ZoneName::new(alloc, tzid)?;
     let put = put_in_zone(property, line, zone.as_ref(), set);
-    // By a call: what is dropped in place is proved anew.
+    // An explicit call: an implicit drop would be proved anew.
     drop(zone);
     put
 }
 
-/// Puts the moments of a line into a set, in the zone that its parameters name; where the value is bad, perhaps a part of them.
+/// Inserts the moments of a line into a set, in the zone that its parameters name. On an error, some of them may have been inserted.
 fn put_in_zone(
     property: PropertyName,
     line: &SeenLine<'_>,
@@ -121,7 +121,7 @@ fn put_in_zone(
     put_moment(property, rest, zone, set)
 }
 
-/// What stands before and behind the first comma.
+/// What comes before and after the first comma.
 fn cut_comma(text: &str) -> Option<(&str, &str)>
     ensures { MatchOption result (HasNoComma text.now)
         (λ p. (text.now ≡ p.0.now ++ 44 ∷ p.1.now) × HasNoComma p.0.now) }

@@ -3,7 +3,7 @@ ghost use Rattle.std.specs.Prelude.{◌≡◌, ◌<◌, ℕ, ◌↔◌, IsTrue, 
 ghost use Rattle.std.specs.List.{All};
 ghost use Rattle.itip_todo.specs.Values.{IsNumberUpTo, AreDigitsUpTo};
 
-/// The whole number that a text spells, at most `limit`: an optional sign and digits; behind a minus it can only be 0 (RFC 5545 3.3.8).
+/// Parses a whole number of at most `limit`: an optional sign and digits; after a minus it can only be 0 (RFC 5545 3.3.8).
 pub(crate) fn read_number(text: &str, limit: u32) -> Option<u32>
     ensures found { IfSome result (IsNumberUpTo limit text.now) }
     ensures none { IfNone result ((n : ℕ) → IsNumberUpTo limit text.now n → ⊥) }

@@ -1,4 +1,4 @@
-//! Where properties stand in a text.
+//! Where properties are in a text.
 ghost use Rattle.std.specs.Prelude.{◌≡◌, ◌≤◌, IfOk};
 ghost use Rattle.itip_lines.specs.ParamsText.{params_in, IsParamsText};
 ghost use Rattle.itip_lines.specs.Writing.{Extends};
@@ -6,7 +6,7 @@ ghost use Rattle.itip_todo.specs.Places.{property_at, IsPlaceIn};
 
 use std::alloc::AllocError;
 
-/// Where a property stands in a text: the text of its parameters up to a colon, and its value behind that.
+/// Where a property is in a text, in octets: its parameters from `start` to `colon`, and its value from after the colon to `end`.
 #[derive(Clone, Copy, Debug)]
 pub(crate) struct Place {
     pub start: u32,
@@ -14,10 +14,10 @@ pub(crate) struct Place {
     pub end: u32,
 }
 
-/// Appends a property to a text, where `params` is the text of its parameters; and says where it stands.
+/// Appends a property to a text, and returns its place there. `params` is the text of its parameters.
 ///
-/// A text that has more octets than 32 bits count is refused as memory is. Where memory is refused, a part of the property may
-/// stand in the text.
+/// A text longer than `u32::MAX` octets is refused as if an allocation had failed. On an error, the property or a part of it may
+/// have been appended.
 pub(crate) fn append(params: &str, value: &str, text: &mut Vec<u8>) -> Result<Place, AllocError>
     requires { IsParamsText params.now }
     ensures stands { IfOk result (λ place. IsPlaceIn text.new.items place

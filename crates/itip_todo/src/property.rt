@@ -19,10 +19,10 @@ use std::fmt;
 use std::marker::Model;
 use std::sync::Arc;
 
-/// A value with its parameters, in their order: what stands behind a property's name (RFC 5545 3.1).
+/// A value with its parameters, in order: what follows a property's name (RFC 5545 3.1).
 ///
-/// It is a place in a text that is shared: a clone is a count more, and takes no memory. The attendees of a to-do stand in one text,
-/// which is kept as long as one of them is: [`Property::alone`] gives one whose text has no other.
+/// It is a place in a text that is reference-counted, so cloning does not allocate. The attendees of a to-do share one text, which
+/// lives as long as any of them: [`Property::alone`] returns a property with a text of its own.
 #[derive(Drop)]
 pub struct Property {
     text: Arc<Bytes>,
@@ -45,30 +45,30 @@ impl Model for Property {
 }
 
 impl Property {
-    /// A value with these parameters, in memory of its own.
+    /// Makes a property from a value and parameters, with a text of its own.
     ///
-    /// One that has more octets than 32 bits count is refused as memory is.
+    /// Returns an error if an allocation fails, or if the property has more than `u32::MAX` octets.
     pub fn new(alloc: Global, params: &Params, value: &str) -> Result<Property, NoMemory>
         ensures { IfOk result (λ property. property ≡ record { params = params.now; value = value.now }) }
     {
         copied(alloc, params.as_str(), value)
     }
 
-    /// The value of a line with its parameters, in memory of its own, as [`Property::new`] gives them.
+    /// The value of a line with its parameters, with a text of its own, as [`Property::new`] returns it.
     pub(crate) fn of_line(alloc: Global, line: &SeenLine<'_>) -> Result<Property, NoMemory>
         ensures { IfOk result (λ property. property ≡ record { params = line.now.params; value = line.now.value }) }
     {
         copied(alloc, line.params(), line.value())
     }
 
-    /// The same property, in memory of its own: it keeps no text of others.
+    /// The same property with a text of its own, which has no other property in it.
     pub fn alone(&self, alloc: Global) -> Result<Property, NoMemory>
         ensures { IfOk result (λ property. property ≡ self.now) }
     {
         copied(alloc, self.params(), self.value())
     }
 
-    /// The property that stands at a place of a text, which it shares.
+    /// The property at a place in a text, which it shares.
     pub(crate) fn at(text: &Arc<Bytes>, place: Place) -> Result<Property, NoMemory>
         requires { IsPlaceIn (arc_value text.now) place }
         ensures { IfOk result (λ property. property ≡ property_at (arc_value text.now) place) }
@@ -85,11 +85,11 @@ impl Property {
     {
         let Place { colon, end, .. } = self.place;
         let text = self.text.as_slice();
-        // The invariant: the value is UTF-8.
+        // By the invariant the value is UTF-8.
         unsafe { str::from_utf8_unchecked(&text[colon as usize + 1..end as usize]) }
     }
 
-    /// The text of the parameters as it is written, each behind its `;`.
+    /// The parameters as they are written, each with its leading `;`.
     pub fn params(&self) -> &str
         ensures text { result.now ≡ params_text self.now.params }
         ensures lawful { AllByRecursion IsLawfulParam self.now.params }
@@ -100,15 +100,15 @@ impl Property {
         unsafe { str::from_utf8_unchecked(&text[start as usize..colon as usize]) }
     }
 
-    /// The first value of the first parameter of this name, which is in upper case; empty where there is none. It takes no
-    /// memory.
+    /// The first value of the first parameter with this name, given in upper case; empty if there is none. Does not
+    /// allocate.
     pub fn first_value(&self, name: &str) -> &str
         ensures { result.now ≡ param_value name.now self.now.params }
     {
         param_value(self.params(), name)
     }
 
-    /// The property as it is written behind its name, without folds.
+    /// The property as it is written after its name, without folds.
     fn octets(&self) -> &[u8]
         ensures { result.now ≡ property_text self.now }
     {
@@ -117,7 +117,7 @@ impl Property {
     }
 }
 
-/// A value with parameters of this text, in memory of its own.
+/// A property with a text of its own, from the text of its parameters and its value.
 fn copied(alloc: Global, params: &str, value: &str) -> Result<Property, NoMemory>
     requires { IsParamsText params.now }
     ensures { IfOk result (λ property. property ≡ record { params = params_in params.now; value = value.now }) }

@@ -5,13 +5,13 @@ ghost use Rattle.itip_todo.specs.Table.{has_period};
 use itip_lines::{LineList, SeenLine};
 use std::fmt;
 
-/// The properties of a to-do that are told apart by name, in canonical order (RFC 5545 3.8; `X-DESK-BASE` is our own).
+/// The properties of a to-do that are distinguished by name, in canonical order (RFC 5545 3.8; `X-DESK-BASE` is our own).
 #[derive(Clone, Copy, Debug, PartialEq, Eq)]
 pub enum PropertyName {
     Uid,
     DtStamp,
     Sequence,
-    /// `X-DESK-BASE`: the effective sequence of an instance or range item, where it exceeds its own.
+    /// `X-DESK-BASE`: the effective sequence of an instance or range item, if it exceeds its own.
     DeskBase,
     RecurrenceId,
     DtStart,
@@ -32,7 +32,7 @@ pub enum PropertyName {
 impl PropertyName {
     ghost use Rattle.itip_todo.specs.Table.{property_named, property_of, name_text, IsSpelled};
 
-    /// The property that a line is read as. RDATE with a `/` in its value is one of the others (our own rule).
+    /// The property that a line is read as. RDATE with a `/` in its value is read as `Others` (our own rule).
     #[tactic(auto, unfolding(crate::specs::Table::property_of))]
     pub fn of_line(line: &SeenLine<'_>) -> PropertyName
         ensures { result ≡ property_of line.now }
@@ -44,7 +44,7 @@ impl PropertyName {
         property
     }
 
-    /// The name as it is written; that of the others is empty.
+    /// The name as it is written; empty for `Others`.
     pub(crate) fn as_str(self) -> &'static str
         ensures { result.now ≡ name_text self }
     {
@@ -69,7 +69,7 @@ impl PropertyName {
         }
     }
 
-    /// The property of a name in upper case.
+    /// The property with this name, given in upper case; `Others` for any other name.
     pub fn named(name: &str) -> PropertyName
         ensures property { result ≡ property_named name.now }
         ensures spelled { IsSpelled result name.now }
@@ -121,7 +121,7 @@ impl fmt::Display for PropertyName {
     }
 }
 
-/// Whether an RDATE stands among the lines of other properties: one with a `/` in its value, a period (RFC 5545 3.8.5.2).
+/// Whether the lines of other properties have an RDATE: one with a `/` in its value, a period (RFC 5545 3.8.5.2).
 pub fn has_period(others: &LineList) -> bool
     ensures { result ≡ has_period others.now }
 {

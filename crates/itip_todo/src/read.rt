@@ -13,12 +13,12 @@ use crate::todo::Todo;
 use itip_lines::NumberedLine;
 use std::alloc::Global;
 
-/// The to-do of the lines between BEGIN:VTODO and END:VTODO, without nested components (RFC 5545 3.6.2).
+/// Parses the lines between BEGIN:VTODO and END:VTODO, without nested components, as a to-do (RFC 5545 3.6.2).
 ///
-/// The first faulty line decides: a property that stands twice, then RANGE other than THISANDFUTURE at RECURRENCE-ID,
-/// then a bad value, then too many attendees, then two of one address. After the lines UID and then DTSTAMP may be
-/// missing, which is in no line. Of RANGE the first value of the first one counts, without regard to case; elsewhere it
-/// stands for nothing.
+/// The first faulty line decides: a property that appears twice, then a RANGE other than THISANDFUTURE on RECURRENCE-ID,
+/// then a bad value, then too many attendees, then two with the same address. If no line is faulty, a missing UID decides,
+/// and then a missing DTSTAMP; neither is at a line. Of RANGE the first value of the first one counts, ignoring case; on
+/// other properties it is ignored.
 pub fn read_todo(alloc: Global, lines: &[NumberedLine<'_>]) -> Result<Todo, TodoError>
     ensures found { IfOk result (λ todo. ReadsTodo (plain_lines lines.now) todo) }
     ensures refused { IfErr result (λ e. IfRefused e (RefusesTodo lines.now)) }
@@ -30,7 +30,7 @@ pub fn read_todo(alloc: Global, lines: &[NumberedLine<'_>]) -> Result<Todo, Todo
     finish(alloc, draft)
 }
 
-/// Takes one more line; a refusal names it as the place.
+/// Takes one more line. A refusal names its place.
 fn add_numbered(alloc: Global, draft: &mut Draft, line: &NumberedLine<'_>) -> Result<(), TodoError>
     ensures taken { OnOk result (Takes (property_of line.now.line) line.now.line draft.old draft.new) }
     ensures refused { IfErr result (λ e. IfRefused e (λ refusal.

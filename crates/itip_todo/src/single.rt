@@ -1,4 +1,4 @@
-//! Lines of the properties that may stand once.
+//! Lines of the properties that may appear once.
 ghost use Rattle.std.specs.Prelude.{◌≡◌, ◌≢◌, true, false, None, OnOk, IfOk, IfErr};
 ghost use Rattle.itip_todo.specs.Drafts.{Takes, Refuses};
 ghost use Rattle.itip_todo.specs.Causes.{IfCause};
@@ -165,7 +165,7 @@ pub(crate) fn add_organizer(
     Ok(())
 }
 
-/// Whether RECURRENCE-ID has a range; RANGE of another value is refused.
+/// Whether RECURRENCE-ID has RANGE=THISANDFUTURE. Any other RANGE is refused.
 fn range_of(line: &SeenLine<'_>) -> Result<bool, CauseError>
     ensures range { IfOk result (λ range. range ≡ has_range line.now) }
     ensures good { OnOk result (has_bad_range name.RecurrenceId line.now ≡ false) }

@@ -16,7 +16,7 @@ pub enum Status {
 }
 
 impl Status {
-    /// The status of this name, without regard to case. `None` of any other text.
+    /// The status with this name, ignoring case, or `None` if there is none.
     pub fn named(name: &str) -> Option<Status>
         ensures { result ≡ status_of name.now }
     {
@@ -46,7 +46,7 @@ impl Status {
     }
 }
 
-/// A text names no status of a to-do.
+/// The error for a text that names no status of a to-do.
 #[derive(Clone, Copy, PartialEq, Eq, Debug, Error)]
 #[error("no status has this name")]
 pub struct BadStatus;
@@ -59,7 +59,7 @@ impl fmt::Display for Status {
     }
 }
 
-/// Names are read without regard to case.
+/// Names are matched without regard to case.
 impl FromStr for Status {
     type Err = BadStatus;
 

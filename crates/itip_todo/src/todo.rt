@@ -9,23 +9,23 @@ use crate::uid::Uid;
 use itip_lines::{LineList, ListOf, NoMemory, TextList};
 use itip_moment::{Moment, Stamp};
 
-/// A to-do (RFC 5545 3.6.2) as it is kept: the properties that scheduling reads have fields, all others their lines.
+/// A to-do (RFC 5545 3.6.2): the properties that scheduling reads are fields, and all others are kept as lines.
 ///
-/// A to-do is lawful: its values, their counts and their orders are those of the table of properties, no two
-/// attendees have one address, and each line that it is written as is a lawful content line.
+/// A to-do is lawful: its values, their counts and their order follow the table of properties, no two attendees have
+/// the same address, and each line that it is written as is a lawful content line.
 #[derive(Debug, Drop)]
 pub struct Todo {
     /// UID, not empty.
     pub uid: Uid,
     /// DTSTAMP.
     pub stamp: Stamp,
-    /// SEQUENCE, 0 where it is absent, at most 2,147,483,647.
+    /// SEQUENCE, 0 if absent, at most 2,147,483,647.
     pub seq: u32,
     /// X-DESK-BASE, at most 2,147,483,647.
     pub base: Option<u32>,
     /// RECURRENCE-ID.
     pub rid: Option<Moment>,
-    /// Whether RECURRENCE-ID has RANGE=THISANDFUTURE: the to-do is of its instance and all after it (RFC 5545 3.2.13).
+    /// Whether RECURRENCE-ID has RANGE=THISANDFUTURE: the to-do is about that instance and all after it (RFC 5545 3.2.13).
     pub range: bool,
     /// DTSTART.
     pub start: Option<Moment>,
@@ -41,15 +41,15 @@ pub struct Todo {
     pub summary: Option<Property>,
     /// ORGANIZER with its parameters; the address is not empty.
     pub organizer: Option<Property>,
-    /// ATTENDEE with its parameters, in order of appearance; no address is empty, and no two are one.
+    /// ATTENDEE with its parameters, in order of appearance; no address is empty, and no two are the same.
     pub attendees: ListOf<Property>,
-    /// The values of RRULE as they stand, in order of appearance.
+    /// The values of RRULE as they are written, in order of appearance.
     pub rule: TextList,
-    /// The moments of RDATE, each once, in their order.
+    /// The moments of RDATE, each once, in ascending order.
     pub rdates: ListOf<Moment>,
-    /// The moments of EXDATE, each once, in their order.
+    /// The moments of EXDATE, each once, in ascending order.
     pub exdates: ListOf<Moment>,
-    /// The lines of all other properties as they stand, and those of RDATE with a `/` in the value.
+    /// The lines of all other properties, unchanged, and those of RDATE with a `/` in the value.
     pub others: LineList,
     pub ghost lawful: { IsLawful (record {
       uid = uid;

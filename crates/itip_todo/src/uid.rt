@@ -1,4 +1,4 @@
-//! The name of a to-do.
+//! The UID of a to-do.
 ghost use Rattle.std.specs.Prelude.{◌≡◌, IfOk, nat_eq, refl, Some};
 ghost use Rattle.std.specs.Ordering.{nat_cmp};
 ghost use Rattle.std.specs.Cmp.Lexicographic.{pointwise, slice_cmp, nat_list_eq_equiv, nat_list_cmp_total, texts_ties, texts_po};
@@ -16,10 +16,10 @@ use std::hash::{Hash, Hasher};
 use std::marker::Model;
 use std::sync::Arc;
 
-/// The UID of a to-do (RFC 5545 3.8.4.7), compared by its octets.
+/// The UID of a to-do (RFC 5545 3.8.4.7), compared by its bytes.
 ///
-/// Its text is shared: a clone is a count more, and takes no memory. Its first octets stand in it as a number too, so that its order
-/// seldom has to look at the text, which lies elsewhere in memory.
+/// Its text is reference-counted, so cloning does not allocate. Its first 16 bytes are also stored inline as a number, so that a
+/// comparison seldom has to look at the text, which is elsewhere in memory.
 #[derive(Debug, Drop)]
 pub struct Uid {
     head: u128,
@@ -39,7 +39,7 @@ impl Model for Uid {
 }
 
 impl Uid {
-    /// The UID with this text, whose memory it keeps.
+    /// Makes a UID from a text, and keeps its memory.
     pub fn new(alloc: Global, text: Text) -> Result<Uid, NoMemory>
         ensures { IfOk result (λ uid. uid ≡ text) }
     {
@@ -48,7 +48,7 @@ impl Uid {
         Ok(Uid { head: number, text })
     }
 
-    /// A UID with a copy of a text.
+    /// Makes a UID from a copy of a text.
     pub fn copy(alloc: Global, text: &str) -> Result<Uid, NoMemory>
         ensures { IfOk result (λ uid. uid ≡ text.now) }
     {

@@ -20,12 +20,12 @@ use itip_moment::stamp_bytes;
 use itoa::Buffer;
 use std::alloc::AllocError;
 
-/// More octets than most to-dos have.
+/// More octets than most to-dos take.
 const USUAL: usize = 512;
 
-/// Appends the canonical lines of a to-do, from BEGIN:VTODO to END:VTODO, which are read as this to-do.
+/// Appends the canonical lines of a to-do, from BEGIN:VTODO to END:VTODO, which are read back as this to-do.
 ///
-/// On an error, when memory was refused, the vector is as before.
+/// If an allocation fails, `out` is left unchanged.
 pub fn write_todo(todo: &Todo, out: &mut Vec<u8>) -> Result<(), AllocError>
     ensures ok { OnOk result (out.new.items ≡ out.old.items ++ contents_octets (todo_contents (parts_of todo.now))) }
     ensures read_again { OnOk result ((octets : List ℕ)
@@ -37,10 +37,10 @@ pub fn write_todo(todo: &Todo, out: &mut Vec<u8>) -> Result<(), AllocError>
     out.extend_from_slice(text.as_slice())
 }
 
-/// Appends the canonical lines of a to-do, as [`write_todo`] does, as far as a limit allows.
+/// Appends the canonical lines of a to-do, as [`write_todo`] does, as far as a limit on the bytes in `out` allows.
 ///
-/// Where `out` would have more than `limit` octets with all of them, it has more, and maybe not all lines, in their order: once it
-/// has more, no line of a list is written. On an error, when memory was refused, a part of the lines may stand in `out`.
+/// If `out` would exceed `limit` with all lines, it exceeds it, but some of the lines may be missing: once it has more than `limit`
+/// bytes, no line of a list is written. If an allocation fails, a part of the lines may have been appended.
 pub fn write_todo_up_to(todo: &Todo, limit: usize, out: &mut Vec<u8>) -> Result<(), AllocError>
     ensures { OnOk result (AppendsUpTo limit (todo_contents (parts_of todo.now)) out.old.items out.new.items) }
 {
@@ -48,9 +48,9 @@ pub fn write_todo_up_to(todo: &Todo, limit: usize, out: &mut Vec<u8>) -> Result<
     write_todo_rest(todo, limit, out)
 }
 
-/// Appends the canonical lines of a to-do from BEGIN:VTODO to ORGANIZER: those of properties that stand once.
+/// Appends the canonical lines of a to-do from BEGIN:VTODO to ORGANIZER: those of properties that appear at most once.
 ///
-/// On an error, when memory was refused, a part of the lines may stand in `out`.
+/// If an allocation fails, a part of the lines may have been appended.
 pub fn write_todo_front(todo: &Todo, out: &mut Vec<u8>) -> Result<(), AllocError>
     ensures { OnOk result (out.new.items ≡ out.old.items ++ contents_octets (front_contents (parts_of todo.now))) }
 {
@@ -68,7 +68,7 @@ pub fn write_todo_front(todo: &Todo, out: &mut Vec<u8>) -> Result<(), AllocError
 }
 
 /// Appends the canonical lines of a to-do from ATTENDEE to END:VTODO, which follow those of [`write_todo_front`], as far as a limit
-/// allows, as [`write_todo_up_to`] does.
+/// on the bytes in `out` allows, as [`write_todo_up_to`] does.
 pub fn write_todo_rest(todo: &Todo, limit: usize, out: &mut Vec<u8>) -> Result<(), AllocError>
     ensures { OnOk result (AppendsUpTo limit (rest_contents (parts_of todo.now)) out.old.items out.new.items) }
 {
@@ -160,9 +160,9 @@ fn write_attendees(
     Ok(())
 }
 
-/// Appends the line of a property of this name, with its parameters (RFC 5545 3.1).
+/// Appends the line of a property with this name, with its parameters (RFC 5545 3.1).
 ///
-/// Where memory is refused `out` stays as it was. It is asked for only where `out` has no room for the line.
+/// If an allocation fails, `out` is left unchanged. Nothing is allocated if `out` has room for the line.
 pub fn write_property(
     name: PropertyName,
     property: &Property,

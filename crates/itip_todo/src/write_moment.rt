@@ -12,7 +12,7 @@ use itip_lines::{write_param, write_parts};
 use itip_moment::{Moment, write_moment};
 use std::alloc::AllocError;
 
-/// More octets than most moments have with their parameters.
+/// More octets than most moments take with their parameters.
 const USUAL: usize = 64;
 
 pub(crate) fn write_optional_moment(
@@ -58,9 +58,9 @@ pub(crate) fn write_rid(
     }
 }
 
-/// Appends RECURRENCE-ID of an instance, or of it and all after it (RFC 5545 3.2.13).
+/// Appends the RECURRENCE-ID line of an instance, or with `range` of it and all after it (RFC 5545 3.2.13).
 ///
-/// On an error, when memory was refused, a part of it may stand in `out`.
+/// If an allocation fails, a part of the line may have been appended.
 pub fn write_recurrence_id(
     range: bool,
     moment: &Moment,
@@ -74,7 +74,7 @@ pub fn write_recurrence_id(
     write_behind(PropertyName::RecurrenceId, params, moment, out)
 }
 
-/// Appends a moment: VALUE=DATE marks a date, and TZID a zone.
+/// Appends the line of a moment: VALUE=DATE marks a date, and TZID a zone.
 fn write_one(property: PropertyName, moment: &Moment, out: &mut Vec<u8>) -> Result<(), AllocError>
     ensures { OnOk result (out.new.items ≡ out.old.items ++ contents_octets (moment_line property moment.now ∷ [])) }
 {
@@ -83,7 +83,7 @@ fn write_one(property: PropertyName, moment: &Moment, out: &mut Vec<u8>) -> Resu
     write_behind(property, params, moment, out)
 }
 
-/// Appends a moment with parameters of this text, behind which its value is put together.
+/// Appends the line of a moment. `params` is the text of its parameters, and the buffer in which its value is assembled.
 fn write_behind(
     property: PropertyName,
     params: Vec<u8>,
@@ -111,7 +111,7 @@ fn write_moment_params(moment: &Moment, out: &mut Vec<u8>) -> Result<(), AllocEr
     }
 }
 
-/// Appends the text of RANGE, where there is one.
+/// Appends the text of RANGE, if there is one.
 fn write_range(range: bool, out: &mut Vec<u8>) -> Result<(), AllocError>
     ensures { OnOk result (out.new.items ≡ out.old.items ++ params_text (range_params range)) }
 {

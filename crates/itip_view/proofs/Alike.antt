@@ -1,4 +1,4 @@
--- What stands, governs, counts and decides depends on what is kept alone.
+-- What stands, governs, counts and decides depends only on what is kept.
 use Rattle.std.proofs.Common.{◌≡◌, sym, ◌∙◌, ap, refl, ℕ, List, [], ◌∷◌, subst, inl, inr, arith, ◌<◌, ◌≤◌, ◌↔◌, max, Option, Some, None}
 use Rattle.std.specs.Prelude.{true, false}
 use Rattle.std.specs.List.{AllByRecursion}
@@ -32,7 +32,7 @@ pub series_alike : (x y : List Item) → KeepAlike x y → (uid : List ℕ) (ite
     IsBest y (Series uid) item
 series_alike x y same uid item best = best_alike x y same (Series uid) item best (series_kept x uid item best)
 
--- of a best item it is kept that it is not dead
+-- a best item that is not dead is kept
 kept_best : (x : List Item) (key : Key) (item : Item) → IsBest x key item → (¬ IsDead x item) → IsKept x item
 kept_best x key item best alive = record { best = subst (λ (k : Key). IsBest x k item) (sym best.about) best; alive = alive }
 

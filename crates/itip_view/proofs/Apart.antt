@@ -60,7 +60,7 @@ module _ (x y : List Item) (apart : ShareNoUid x y) where
     ],
   ))
 
-  -- something is about the UID in the one or the other, where the same best items are
+  -- if something is about the UID, one set or the other has the same best items of it
   best_of_two : (uid : List ℕ) → IsAbout (x ++ y) uid → HaveSameBest uid (x ++ y) x ⊎ HaveSameBest uid (x ++ y) y
   best_of_two uid is = elim (Contains-append_cases x y is.item is.is_heard) [
     | inl here ↦ inl (swapped uid x (x ++ y) (first_best uid (record { item = is.item; is_heard = here; about = is.about })))

@@ -159,7 +159,7 @@ module _ (items : List Item) (window : Window) (uid : List ℕ) where
       by row here (inr (inr (inr (inr p)))) =
           so.whole row (record { is_row = inr (inr (inr (inr p))); uid_is = here; at_is = ap moment_of p.id })
 
--- what stands before a moment of an ascending list is before it
+-- what comes before a moment in an ascending list is before it
 pub earlier_before : {X : Type 0} (R : X → X → Type 0) (xs : List X) (i : ℕ) (x : X) → AllPairs R xs → i < length xs → x ≡ get_or xs i x →
     (y : X) → Contains (take i xs) y → R y x
 earlier_before R [] i x p below is y h = absurd (omega (arith, below))

@@ -28,7 +28,7 @@ length_of_one : (b : Bool) (row : Row) → length (cond b (row ∷ []) []) ≡ f
 length_of_one true row = refl
 length_of_one false row = refl
 
--- one more, where there is one that passes
+-- one more, if there is one that passes
 passing_more : (p : Row → Bool) (rows : List Row) (row : Option Row) → length (filter p (rows ++ option_to_list row)) ≡
     length (filter p rows) + from_bool (passes_if p row)
 passing_more p rows None =
@@ -41,7 +41,7 @@ passing_more p rows (Some row) =
     length-append (filter p rows) (filter p (row ∷ [])) in
     both ∙ sum ∙ ap (λ (n : ℕ). length (filter p rows) + n) (length_of_one (p row) row)
 
--- so many of the row without a moment, and of those at these moments, are asked for
+-- of the row without a moment, and of those at these moments, `number` are asked for
 pub record CountedUpTo (wanted : Wanted) (part : UidPart) (window : Window) (done : List Moment) (number : ℕ) : Type 0 where
   pub rows : List Row
   pub up_to : RowsUpTo part.items window part.uid done rows

@@ -26,13 +26,13 @@ record AreCutInto (rows : List Row) (blocks : List Block) : Type 0 where
   each : (block : Block) → Contains blocks block → IsBlock block
   whole : rows ≡ rows_of_blocks blocks
 
--- what comes first in an order of two comes no later in the one of them
+-- what comes first by two orders in turn comes no later by the first of them
 less_or_tied : (first rest : Ordering) → ordering_then first rest ≡ Less → (first ≡ Less) ⊎ (first ≡ Equal)
 less_or_tied Less rest less = inl refl
 less_or_tied Equal rest less = inr refl
 less_or_tied Greater rest less = absurd (let x : Greater ≡ Less = less in cc)
 
--- rows that stand behind a row are of its UID, or of a later one
+-- rows after a row are of its UID, or of a later one
 uid_behind : (row next : Row) → row_cmp row next ≡ Less → (slice_cmp nat_cmp row.uid next.uid ≡ Less) ⊎ (row.uid ≡ next.uid)
 uid_behind row next before =
     elim (less_or_tied (slice_cmp nat_cmp row.uid next.uid) (option_cmp moment_cmp (moment_of row.id) (moment_of next.id)) before) [
@@ -57,7 +57,7 @@ one_is row = record {
 }
 
 module _ (row : Row) (rows : List Row) (before : (next : Row) → Contains rows next → row_cmp row next ≡ Less) where
-  -- a row in front of all blocks is a block of its own
+  -- a row before all blocks is a block of its own
   alone : (blocks : List Block) → AreCutInto rows blocks → ((block : Block) → Contains blocks block → slice_cmp nat_cmp row.uid block.uid ≡
       Less) → AreCutInto (row ∷ rows) (one_block row ∷ blocks)
   alone blocks cut earlier = record {

@@ -23,7 +23,7 @@ module _ (heard : List Item) where
       AreShown heard asked_of lines others → AreShown heard asked_of (line ∷ lines) (in_front (shown_line line answer) others)
   shows_more asked_of line lines answer others decides rest = (answer, others, decides, rest, refl)
 
--- one more, or none, behind those before
+-- one more, or none, after those before
 pub behind : (front others : List ShownAttendee) (shown : Option ShownAttendee) → front ++
     in_front shown others ≡ (front ++ in_front shown []) ++ others
 behind front others None = ap (λ (xs : List ShownAttendee). xs ++ others) (sym (nothing front))

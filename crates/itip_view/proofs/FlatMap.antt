@@ -10,6 +10,6 @@ flat_map_more f xs i x lt is =
     ap (flat_map f) (take_more xs i x lt) ∙ flat_map-append f (take i xs) (get_or xs i x ∷ []) ∙
     ap (λ rest. flat_map f (take i xs) ++ rest) (append-nil (f (get_or xs i x)) ∙ ap f (sym is))
 
--- a piece is put behind another
+-- a piece is appended after another
 pub then_more : {A : Type 0} (old mid new front back : List A) → mid ≡ old ++ front → new ≡ mid ++ back → new ≡ old ++ (front ++ back)
 then_more old mid new front back first second = second ∙ ap (λ m. m ++ back) first ∙ append_assoc old front back

@@ -1,4 +1,4 @@
--- The rows of several UIDs, one UID after the other.
+-- The rows of several UIDs, one UID after another.
 use Rattle.std.proofs.Common.{◌≡◌, ◌↔◌, ◌+◌, ◌<◌, ℕ, List, [], ◌∷◌, ◌++◌, sym, ◌∙◌, ap, subst, inl, inr, length, length-append}
 use Rattle.std.specs.List.{Contains}
 use Rattle.std.specs.Option.{option_cmp}
@@ -54,7 +54,7 @@ module _ (heard : List Item) (window : Window) (P : Row → Type 0) where
       ];
     }
 
-    -- with UIDs behind these the rows are as many at least
+    -- with UIDs after these there are at least as many rows
     pub gather_too_many : (rest : List (List ℕ)) → row_limit < length rows + length more →
         AreTooManyWhere (IsAmong ((done ++ uid ∷ []) ++ rest) P) heard window
     gather_too_many rest over = record {
@@ -77,7 +77,7 @@ module _ (heard : List Item) (window : Window) where
   uid_of_row uids of row (inr (inr (inr (inl p)))) = subst (Contains uids) (ap uid_of p.live.best.about) (of p.item p.live.best.is_heard)
   uid_of_row uids of row (inr (inr (inr (inr p)))) = subst (Contains uids) (ap uid_of p.live.best.about) (of p.item p.live.best.is_heard)
 
-  -- those of all UIDs of which something was heard are all of which it holds
+  -- those of all UIDs of which something was heard are all for which it holds
   module _ (uids : List (List ℕ)) (of : AreUidsOf uids heard) (P : Row → Type 0) where
     pub among_all : (row : Row) → (IsRow heard window row × IsAmong uids P row) ↔ (IsRow heard window row × P row)
     among_all row = (

@@ -1,4 +1,4 @@
--- The rows that are left, a UID at a time.
+-- The rows that are left, one UID at a time.
 use Rattle.std.proofs.Common.{◌≡◌, ◌↔◌, ◌<◌, ◌≤◌, ◌∙◌, ℕ, List, [], ◌∷◌, ◌++◌, refl, sym, ap, subst, ◌⊎◌, inl, inr, length, map, drop}
 use Rattle.std.proofs.Common.{arith, zero, suc, true, not}
 use Rattle.std.specs.List.{Contains, AllPairs, AllByRecursion, filter}
@@ -59,7 +59,7 @@ map_dropped f zero xs = refl
 map_dropped f (suc i) [] = refl
 map_dropped f (suc i) (x ∷ xs) = map_dropped f i xs
 
--- the rows of a UID before those of the UIDs behind it
+-- the rows of a UID before those of the UIDs after it
 module _ (heard : List Item) (window : Window) (P : Row → Type 0) (uid : List ℕ) (uids : List (List ℕ))
     (ascend : AscendTexts (uid ∷ uids)) (rows : List Row) (of : AreRowsWhere (IsOf uid P) heard window rows) where
   earlier : (u : List ℕ) → Contains uids u → slice_cmp nat_cmp uid u ≡ Less
@@ -87,7 +87,7 @@ module _ (heard : List Item) (window : Window) (P : Row → Type 0) (uid : List 
     apart : (row : Row) → not (same_text row.uid uid) ≡ true → row.uid ≡ uid → ⊥
     apart row off same = false≢true (sym (ap not ((bytes_decides row.uid uid).1 same)) ∙ off)
 
-    -- a UID behind it is another one
+    -- a UID after it is a different one
     behind_apart : (row : Row) → Contains uids row.uid → not (same_text row.uid uid) ≡ true
     behind_apart row behind = by_bool (same_text row.uid uid) (not (same_text row.uid uid) ≡ true)
         (λ yes.
@@ -120,7 +120,7 @@ module _ (heard : List Item) (window : Window) (P : Row → Type 0) (uid : List 
           (rows_joined (filter (λ (row : Row). not (same_text row.uid uid)) all) left_are),
     )
 
--- of no UID there is no row
+-- without UIDs there is no row
 pub none_left : (heard : List Item) (window : Window) (P : Row → Type 0) (uids : List (List ℕ)) → uids ≡ [] → (rows : List Row) →
     AreRowsWhere (IsAmong uids P) heard window rows ↔ (rows ≡ [])
 none_left heard window P uids none rows = (
@@ -131,7 +131,7 @@ none_left heard window P uids none rows = (
     nothing : AreRowsWhere (IsAmong uids P) heard window []
     nothing = subst (λ (us : List (List ℕ)). AreRowsWhere (IsAmong us P) heard window []) (sym none) (gather_none heard window P)
 
--- what is asked for in other words
+-- what is asked for, in other words
 module _ (P : Row → Type 0) (heard : List Item) (window : Window) (asked : RowsByUid) (is : AreAsked P heard window asked) where
   alike_here : (row : Row) → (IsRow asked.state.now asked.window row × IsAskedFor asked row) ↔ (IsRow heard window row × P row)
   alike_here row =
@@ -172,7 +172,7 @@ module _ (P : Row → Type 0) (heard : List Item) (window : Window) (asked : Row
   pub left_where : (rows : List Row) → AreLeft asked rows ↔ AreRowsWhere P heard window rows
   left_where rows = (to_where rows, from_where rows)
 
--- the same in other words of the same rows
+-- the same, in other words, for the same rows
 pub asked_as : (P Q : Row → Type 0) (heard other : List Item) (window : Window) (asked : RowsByUid) → AreAsked P heard window asked →
     heard ≡ other → ((row : Row) → IsRow other window row → P row ↔ Q row) → AreAsked Q other window asked
 asked_as P Q heard other window asked is same alike = record {
@@ -246,7 +246,7 @@ count_left asked uids same count is =
     by (TooMany most) (over, is) =
         (over, most_of_these (Wants asked.wanted) asked.state.now asked.window (uids_of asked) most is)
 
--- where they were counted and are few, the rows that are left are no more than a list may have
+-- if the rows that are left were counted and are few, they are no more than a list may have
 pub few_left : (asked : RowsByUid) (number : ℕ) → AreFewLeft asked number → (rows : List Row) → AreLeft asked rows → length rows ≤ row_limit
 few_left asked number few rows are =
     let same : length few.rows ≡ length rows = ap length

@@ -1,4 +1,4 @@
--- Each place has a row: what was heard tells what its attendees show. And whether it is asked for.
+-- Each place has a row: what was heard determines which attendees it shows. And whether it is asked for.
 use Rattle.std.proofs.Common.{◌≡◌, ◌∙◌, List, [], ◌∷◌, refl, ap, subst, sym, inl, inr, Option, Some, None, Bool, true, false, ◌&&◌, not}
 use Rattle.std.specs.Option.{option_copied, option_map}
 use Rattle.std.proofs.lemmas.Bool.{cases_lt}
@@ -93,7 +93,7 @@ module _ (part : UidPart) (place : RowPlace) (start due : Option Moment)
   }
 
   module _ (wanted : Wanted) where
-    -- its row isn't asked for where DUE or STATUS is not what is wanted
+    -- its row isn't asked for if DUE or STATUS is not what is wanted
     pub not_taken : takes wanted due (governing_item place.governing).todo.status ≡ false → IsWanted wanted part (Some place) false
     not_taken off =
         let shown = some_shown part.items (asked_by part.uid (questions_of (governing_item place.governing) place.kind))
@@ -105,7 +105,7 @@ module _ (part : UidPart) (place : RowPlace) (start due : Option Moment)
               (not (wanted.is_open && is_over (governing_item place.governing).todo.status)) ∙ ap (λ b. shows && b) off ∙ and_false shows,
         )
 
-    -- else where it shows the attendee who is named
+    -- else if it shows the attendee who is named
     pub taken : takes wanted due (governing_item place.governing).todo.status ≡ true → (yes : Bool) →
         ((shown : List ShownAttendee) →
         AreShown part.items (asked_by part.uid (questions_of (governing_item place.governing) place.kind))
@@ -128,7 +128,7 @@ passes_if p None = false
 passes_if p (Some row) = p row
 
 module _ (part : UidPart) (window : Window) (at : Option Moment) where
-  -- what is made of a place is what has a row there, or nothing has
+  -- what is made of a place is the row there, or there is none
   pub made_at : (place : Option RowPlace) → IsPlaceAt part window at place → (row : Option Row) → IsMade part place row →
       IsAnswerAt part.items window part.uid at row
   made_at None none row made = subst (IsAnswerAt part.items window part.uid at) (sym made) none

@@ -61,7 +61,7 @@ of_block (first ∷ blocks) block row h there = elim (cons_cases first blocks bl
   | inr later ↦ Contains-append_right first.rows (rows_of_blocks blocks) row (of_block blocks block row later there)
 ]
 
--- the rows of a block stand in the order of the list
+-- the rows of a block are in the order of the list
 rows_within : (blocks : List Block) → AscendRows (rows_of_blocks blocks) → (block : Block) → Contains blocks block →
     AscendRows block.rows
 rows_within [] up block h = absurd (none_in block h)
@@ -197,7 +197,7 @@ module _ (P : Row → Type 0) (window : Window) where
             (subst (λ (n : ℕ). row_limit < n) (sym merged_number) many),
       )
 
-    -- where a part has too many rows the whole has
+    -- if a part has too many rows, so has the whole
     pub too_many_of_part : (part : List Item) → Contains parts part → AreTooManyWhere P part window → AreTooManyWhere P whole window
     too_many_of_part part h over = record {
       some = over.some;

@@ -1,4 +1,4 @@
--- Which items a row needs: one whose rows can stand in the window, and one that names each attendee that it shows.
+-- Which items a row needs: one whose rows can fall in the window, and one that names each attendee that it shows.
 use Rattle.std.proofs.Common.{◌≡◌, ◌∙◌, ℕ, ℤ, List, [], ◌∷◌, refl, ap, subst, ◌⊎◌, inl, inr, Bool, true, false, cond, Some, None}
 use Rattle.std.proofs.Common.{Option, ◌↔◌, IsTrue}
 use Rattle.std.specs.List.{Contains}

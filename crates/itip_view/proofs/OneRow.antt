@@ -1,4 +1,4 @@
--- A place of the list has one row: each field is told by what was heard, and the order of rows tells two rows apart.
+-- A place of the list has one row: what was heard determines each field, and the order of rows tells two rows apart.
 use Rattle.std.proofs.Common.{◌≡◌, ℕ, List, [], ◌∷◌, refl, sym, ◌∙◌, ap, subst, ◌⊎◌, inl, inr, Option, Some, None}
 use Rattle.std.specs.Option.{option_map, option_cmp}
 use Rattle.std.specs.Ordering.{nat_cmp, ordering_reverse}
@@ -116,7 +116,7 @@ one_due_from : (due : Option Moment) (from at : Moment) (a b : Option Moment) �
 one_due_from None from at a b p q = p ∙ sym q
 one_due_from (Some due) from at a b p q = one_date due from at a b p q
 
--- what is told of a date of an item, of an id and of a moment is told of what they are equal to
+-- what holds for a date of an item, an id and a moment holds for what they are equal to
 same_dates : (P : Option Moment → Moment → Moment → Option Moment → Type 0) →
     (date other : Option Moment) (from begin m n : Moment) (b : Option Moment) → date ≡ other → from ≡ begin → m ≡ n
     → P other begin n b → P date from m b
@@ -273,7 +273,7 @@ module _ (heard : List Item) (window : Window) (a b : Row) (uid : a.uid ≡ b.ui
       let item : p.item ≡ q.item = same_series heard a.uid b.uid p.item q.item uid p.live q.live in
       q.single (subst (λ (x : Item). Recurs x.todo) item p.opaque.0)
 
-  -- a row with a moment has not the name of one without
+  -- a row with a moment doesn't have the identifier of one without
   named_or_not : (m : Moment) → a.id ≡ id.At m → IsSingleRow heard window b ⊎ IsOpaqueRow heard window b → ⊥
   named_or_not m p (inl q) = let x : Some m ≡ None = sym (ap moment_of p) ∙ name ∙ ap moment_of q.id in cc
   named_or_not m p (inr q) = let x : Some m ≡ None = sym (ap moment_of p) ∙ name ∙ ap moment_of q.id in cc

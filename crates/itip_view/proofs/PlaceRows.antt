@@ -1,4 +1,4 @@
--- What has a row at a place, and where nothing has.
+-- Which row is at a place, and where there is none.
 use Rattle.std.proofs.Common.{◌≡◌, ℕ, List, refl, sym, ◌∙◌, ap, subst, ◌⊎◌, inl, inr, Option, Some, None}
 use Rattle.itip_moment.specs.declared.moment.Moment.{Moment}
 use Rattle.itip_todo.specs.Properties.{Property}
@@ -211,7 +211,7 @@ module _ (items : List Item) (window : Window) (uid : List ℕ) where
         same,
       )
 
-  -- what was told of the moment of a row at a moment
+  -- what holds for the moment of a row at a moment
   there : (at : Moment) (row : Row) → IsRowAt items window uid (Some at) row → (m : Moment) → row.id ≡ id.At m →
       (P : List ℕ → Moment → Type 0) → P row.uid m → P uid at
   there at row is m name P h =

@@ -1,4 +1,4 @@
--- Which rows of a UID are put behind a text, place by place.
+-- Which rows of a UID are appended to a text, place by place.
 use Rattle.std.proofs.Common.{◌≡◌, ◌≤◌, ◌+◌, ◌∙◌, ℕ, List, [], ◌∷◌, ◌++◌, sym, ap, length, arith, Bool, Option, Some, None, length-append, append_assoc}
 use Rattle.std.specs.Int.{from_bool}
 use Rattle.std.specs.List.{Contains, filter}
@@ -23,7 +23,7 @@ use Rattle.itip_view.proofs.Collecting.{RowsUpTo, rows_begin, rows_next, rows_of
 use Rattle.itip_view.proofs.Counting.{one_at_most}
 use Rattle.itip_view.proofs.Made.{made_at}
 
--- of the row without a moment, and of those at these moments, so many are asked for, and stand behind a text
+-- of the row without a moment, and of those at these moments, `number` are asked for and were appended to a text
 pub record PutUpTo (wanted : Wanted) (part : UidPart) (window : Window) (done : List Moment) (old new : List ℕ) (number : ℕ) : Type 0 where
   pub rows : List Row
   pub up_to : RowsUpTo part.items window part.uid done rows

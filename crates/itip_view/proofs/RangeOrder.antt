@@ -1,4 +1,4 @@
--- The order in which range items are held: what it tells of whether a range item reaches a moment.
+-- The order in which range items are held: what it says about whether a range item reaches a moment.
 use Rattle.std.proofs.Common.{◌≡◌, ◌≢◌, refl, sym, ◌∙◌, ap, true, false}
 use Rattle.std.specs.Ordering.{nat_cmp, is_gt, ordering_then, ordering_reverse}
 use Rattle.std.specs.Cmp.{IsTotalOrder, tied_itself, alike_right}
@@ -41,7 +41,7 @@ one_form form.TheVariants.Zoned form.TheVariants.Floating e = cc
 one_form form.TheVariants.Zoned form.TheVariants.Utc e = cc
 one_form form.TheVariants.Zoned form.TheVariants.Zoned e = refl
 
--- one form and one zone are told by the order
+-- the order tells whether form and zone are the same
 one_form_equal : (id at : Moment) → HaveOneForm id at → form_cmp id at ≡ Equal
 one_form_equal id at same =
     ap (λ f. ordering_then (nat_cmp (form_rank (moment_form id)) (form_rank f)) (slice_cmp nat_cmp (moment_zone id) (moment_zone at)))
@@ -73,11 +73,11 @@ up_from a b not_less = by (moment_cmp a b) refl
     by Equal e = refl
     by Greater e = absurd (not_less (moment_total.antisymm b a ∙ ap ordering_reverse e))
 
--- what reaches a moment isn't behind it
+-- what reaches a moment isn't after it
 pub reach_up : (id at : Moment) → Reaches id at → is_gt (range_cmp id at) ≡ false
 reach_up id at reaches = ap is_gt (by_moment id at (one_form_equal id at reaches.one_form)) ∙ up_from id at reaches.not_before
 
--- and what isn't behind it, and has its form and zone, reaches it
+-- and what isn't after it, and has its form and zone, reaches it
 pub up_reach : (id at : Moment) → HaveOneForm id at → is_gt (range_cmp id at) ≡ false → Reaches id at
 up_reach id at same up =
     record { one_form = same; not_before = not_less-from id at (sym (ap is_gt (by_moment id at (one_form_equal id at same))) ∙ up) }
@@ -93,7 +93,7 @@ first_up Less s e = refl
 first_up Equal s e = refl
 first_up Greater s e = e
 
--- what stands between one that has the form and zone of a moment and the moment has them too
+-- what lies between one with the form and zone of a moment and the moment has them too
 pub between_one_form : (a b at : Moment) → HaveOneForm a at → is_gt (range_cmp a b) ≡ false → is_gt (range_cmp b at) ≡ false →
     HaveOneForm b at
 between_one_form a b at same low high = equal_one_form b at (by (form_cmp b at) (form_cmp a b) refl refl)

@@ -170,7 +170,7 @@ module _ (part : UidPart) (found : List RangeFrom) (are : AreRangesInOrder part 
       up = ap (λ (r : RangeFrom). is_gt (range_cmp r.id.now at)) is ∙
           not_is _ (split.0 (reached - 1) last (omega arith) (omega (arith, some)))
 
-      -- none of those that reach the moment stands behind the last one
+      -- none of those that reach the moment comes after the last one
       before_last : (range : RangeFrom) (h : Contains found range) → h.0 < reached → is_gt (range_cmp range.id.now last.id.now) ≡ false
       before_last range h below =
           ap (λ (r : RangeFrom). is_gt (range_cmp r.id.now last.id.now)) (sym (get_or_default found h.0 last range h.1 ∙ h.2)) ∙

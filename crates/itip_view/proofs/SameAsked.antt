@@ -1,4 +1,4 @@
--- Rows of which the same is asked in other words.
+-- Rows that are asked for by the same condition in other words.
 use Rattle.std.proofs.Common.{◌↔◌, ◌<◌, ℕ, List, length}
 use Rattle.std.specs.List.{Contains}
 use Rattle.itip_items.specs.declared.item.Item.{Item}
@@ -7,7 +7,7 @@ use Rattle.itip_view.specs.Showing.{AreRowsWhere, AreTooManyWhere, IsOf, IsAmong
 use Rattle.itip_view.specs.declared.row.Row.{Row}
 use Rattle.itip_view.specs.declared.window.Window.{Window}
 
--- two sets that have the same rows of which this holds
+-- two sets that have the same rows for which this holds
 module _ (P Q : Row → Type 0) (x y : List Item) (window : Window)
     (same : (row : Row) → (IsRow x window row × P row) ↔ (IsRow y window row × Q row)) where
   pub rows_same : (rows : List Row) → AreRowsWhere P x window rows → AreRowsWhere Q y window rows
@@ -45,7 +45,7 @@ module _ (P Q : Row → Type 0) (alike : (row : Row) → P row ↔ Q row) where
     λ h. record { uid_is = h.uid_is; holds = (alike row).1 h.holds },
   )
 
-  -- of the same UIDs, which may stand in another order or more than once
+  -- of the same UIDs, in any order and perhaps repeated
   pub among_alike : (uids others : List (List ℕ)) → ((uid : List ℕ) → Contains uids uid ↔ Contains others uid) → (row : Row) →
       IsAmong uids P row ↔ IsAmong others Q row
   among_alike uids others same row = (
@@ -54,7 +54,7 @@ module _ (P Q : Row → Type 0) (alike : (row : Row) → P row ↔ Q row) where
   )
 
 module _ (P : Row → Type 0) (heard : List Item) (window : Window) where
-  -- where it holds of each row these are all rows
+  -- if it holds for each row, these are all rows
   pub rows_of_all : ((row : Row) → IsRow heard window row → P row) → (rows : List Row) → AreRowsWhere P heard window rows →
       AreRows heard window rows
   rows_of_all holds rows are = record { ascend = are.ascend; each = are.each; all = λ row is. are.all row is (holds row is) }

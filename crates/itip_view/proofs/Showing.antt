@@ -58,7 +58,7 @@ module _ {X : Type 0} (p : X → Bool) where
         (λ no. ap (λ b. b || list_any p ys) no ∙ finds ys x rest pass)
   ]
 
--- of the rows of a UID those that pass a test are the ones of which that holds which the test decides
+-- of the rows of a UID, those that pass a test are the ones for which P, which the test decides, holds
 module _ (heard : List Item) (window : Window) (uid : List ℕ) (P : Row → Type 0) (p : Row → Bool)
     (decides : (row : Row) → (p row ≡ true) ↔ P row) where
   pub rows_passing : (part : List Item) (rows : List Row) → ArePart uid part heard → AreRowsOf part window uid rows →

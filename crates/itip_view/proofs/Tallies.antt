@@ -16,7 +16,7 @@ use Rattle.itip_view.proofs.Gathering.{gather_none, gather_more}
 use Rattle.itip_view.proofs.Leading.{Leads, leads_none, leads_next, leads_still}
 use Rattle.itip_view.proofs.SameAsked.{over_limit}
 
--- the rows of the UIDs so far are so many, as far as a number of 64 bits goes, and this UID has the most of them
+-- the UIDs so far have `number` rows, as far as 64 bits go, and this UID has the most of them
 pub record Tallied (P : Row → Type 0) (heard : List Item) (window : Window) (done : List (List ℕ)) (leader : Option (List ℕ))
     (most number : ℕ) : Type 0 where
   pub leads : Leads P heard window done leader most

@@ -13,7 +13,7 @@ use Rattle.itip_view.specs.declared.row.Row.{Row}
 use Rattle.itip_view.specs.declared.window.Window.{Window}
 use Rattle.itip_view.proofs.Gathering.{gather_none, gather_more, gather_too_many}
 
--- the rows of the UIDs so far are so many, and this is their text
+-- the UIDs so far have `number` rows, and this is their text
 pub record TextSoFar (P : Row → Type 0) (heard : List Item) (window : Window) (done : List (List ℕ)) (number : ℕ) (text : List ℕ) : Type 0
   where
     pub rows : List Row

@@ -21,7 +21,7 @@ use Rattle.itip_view.specs.TodoLines.{todo_lines_from, todo_lines, IsUnbroken, I
 use Rattle.itip_view.specs.declared.row.Row.{Row}
 use Rattle.itip_view.specs.declared.row.ShownAttendee.{ShownAttendee}
 
--- A text adds so many such lines to those of what follows. The flags tell whether it begins and ends at the beginning of a line.
+-- A text adds `lines` such lines to those of what follows. The flags say whether it begins and ends at the beginning of a line.
 pub record Adds (start : Bool) (text : List ℕ) (lines : ℕ) (end : Bool) : Type 0 where
   pub adds : (rest : List ℕ) → todo_lines_from start (text ++ rest) ≡ lines + todo_lines_from end rest
 

@@ -22,7 +22,7 @@ use Rattle.itip_view.specs.declared.wanted.Wanted.{Wanted}
 use Rattle.itip_view.proofs.InDays.{truth, int_lt-true}
 use Rattle.itip_view.proofs.Showing.{found, finds}
 
--- where only some are asked for, of these the test fails
+-- if only some are asked for, the test fails
 not_both : (only b : Bool) → not (only && b) ≡ true → only ≡ true → b ≡ false
 not_both true true e o = absurd (false≢true e)
 not_both true false e o = refl

@@ -19,7 +19,7 @@ pub record Asked : Type 0 where
   pub key : Key
   pub since : ℕ
 
--- an answer counts: the best of its key, and not of an earlier revision
+-- an answer counts: it is the best of its key, and not of an earlier revision
 pub record Counts (heard : List Item) (asked : Asked) (answer : Item) : Type 0 where
   pub best : IsBest heard asked.key answer
   pub since : asked.since ≤ answer.own
@@ -27,23 +27,23 @@ pub record Counts (heard : List Item) (asked : Asked) (answer : Item) : Type 0 w
 abbrev pub NoneCounts : List Item → Asked → Type 0
 NoneCounts heard asked = (answer : Item) → ¬ Counts heard asked answer
 
--- the first of these that has an answer that counts decides
+-- the first of these with an answer that counts decides
 abbrev pub Decides : List Item → List Asked → Option Item → Type 0
 Decides heard [] None = Unit {0}
 Decides heard [] (Some answer) = ⊥
 Decides heard (asked ∷ rest) None = NoneCounts heard asked × Decides heard rest None
 Decides heard (asked ∷ rest) (Some answer) = Counts heard asked answer ⊎ (NoneCounts heard asked × Decides heard rest (Some answer))
 
--- the key of the answers of the attendee of a line
+-- the key of the answers by the attendee of a line
 abbrev pub answer_key : List ℕ → Option Moment → Property → Key
 answer_key uid id line = Answer uid id (attendee_key line.value)
 
--- how the attendee of an answer takes part: by the one ATTENDEE line that it keeps
+-- PARTSTAT of an answer, by the one ATTENDEE line that it keeps
 abbrev pub partstat_in : List Property → PartStat
 partstat_in [] = NeedsAction
 partstat_in (line ∷ lines) = partstat_of line.params
 
--- what an answer of a kind shows: one that removes the attendee leaves him out
+-- what an answer of this kind shows: a removal leaves the attendee out
 abbrev pub unless_removed : Kind → ShownAttendee → Option ShownAttendee
 unless_removed kind.Remove attendee = None
 unless_removed kind.Reply attendee = Some attendee
@@ -52,7 +52,7 @@ unless_removed kind.Add attendee = Some attendee
 unless_removed kind.Cancel attendee = Some attendee
 unless_removed kind.Refresh attendee = Some attendee
 
--- what an ATTENDEE line shows where this answer decides; with none the line stands as it is, and no percentage
+-- what an ATTENDEE line shows if this answer decides; with none, the line as it is and no percentage
 abbrev pub shown_line : Property → Option Item → Option ShownAttendee
 shown_line line None = Some (record { address = line.value; partstat = partstat_of line.params; percent = None })
 shown_line line (Some answer) =
@@ -63,7 +63,7 @@ abbrev pub in_front : Option ShownAttendee → List ShownAttendee → List Shown
 in_front None others = others
 in_front (Some attendee) others = attendee ∷ others
 
--- the attendees that the lines of an item show, in their order, where of each line these are asked
+-- the attendees that the lines of an item show, in order, if these answers are looked for with each line
 abbrev pub AreShown : List Item → (Property → List Asked) → List Property → List ShownAttendee → Type 0
 AreShown heard asked_of [] shown = shown ≡ []
 AreShown heard asked_of (line ∷ lines) shown =

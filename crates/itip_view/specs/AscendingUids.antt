@@ -1,4 +1,4 @@
--- UIDs by octets, each once (our own form).
+-- UIDs in ascending order by bytes, each once (our own form).
 use Rattle.std.specs.Prelude.{ℕ, List}
 use Rattle.std.specs.List.Sorted.{IsStrictlySortedBy}
 use Rattle.std.specs.Ordering.{nat_cmp}

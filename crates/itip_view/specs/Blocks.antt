@@ -1,4 +1,4 @@
--- Lists cut by UID (our own form): the rows of a UID are a block. And a set in parts, each UID in one of them, whose lists are merged.
+-- Lists cut by UID (our own form): the rows of a UID are a block. And a set in parts, each UID in one part, whose lists are merged.
 use Rattle.std.specs.Prelude.{◌≡◌, ◌≢◌, ◌↔◌, ℕ, ◌<◌, List, length}
 use Rattle.std.specs.List.{Contains, AllPairs, AllZip, flat_map, sum_by}
 use Rattle.std.specs.List.Sorted.{IsPermutation}
@@ -29,17 +29,17 @@ rows_of_blocks blocks = flat_map (λ (block : Block). block.rows) blocks
 abbrev pub IsBlockBefore : Block → Block → Type 0
 IsBlockBefore a b = slice_cmp nat_cmp a.uid b.uid ≡ Less
 
--- blocks by UID, no two of one UID
+-- blocks sorted by UID, no two of one UID
 abbrev pub AscendBlocks : List Block → Type 0
 AscendBlocks = AllPairs IsBlockBefore
 
--- the rows of the view of which this holds, in their order, each once, cut into these blocks
+-- the rows of the view for which P holds, in their order, each once, cut into these blocks
 pub record AreBlocksWhere (P : Row → Type 0) (window : Window) (heard : List Item) (blocks : List Block) : Type 0 where
   pub ascend : AscendBlocks blocks
   pub each : (block : Block) → Contains blocks block → IsBlock block
   pub are_rows : AreRowsWhere P heard window (rows_of_blocks blocks)
 
--- what some lists have, one list after another
+-- the elements of some lists, one list after another
 abbrev pub joined : {X : Type 0} → List (List X) → List X
 joined {X} lists = flat_map (λ (list : List X). list) lists
 
@@ -56,11 +56,11 @@ pub record AreMerged (lists : List (List Block)) (merged : List Block) : Type 0 
 abbrev pub ShareNoUid : List Item → List Item → Type 0
 ShareNoUid part other = (a b : Item) → Contains part a → Contains other b → uid_of a.key ≢ uid_of b.key
 
--- These parts keep together what the whole keeps, as they do where they have its items; and no UID is in two of them.
+-- Together these parts keep what the whole keeps, as they do if they have its items; and no UID is in two of them.
 pub record ArePartsByUid (parts : List (List Item)) (whole : List Item) : Type 0 where
   pub same : (item : Item) → IsKept whole item ↔ IsKept (joined parts) item
   pub apart : AllPairs ShareNoUid parts
 
--- each of these lists is what the part beside it has
+-- each of these lists is that of the part at the same index
 abbrev pub AreBlocksOfParts : (Row → Type 0) → Window → List (List Item) → List (List Block) → Type 0
 AreBlocksOfParts P window = AllZip (AreBlocksWhere P window)

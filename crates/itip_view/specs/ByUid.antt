@@ -1,4 +1,4 @@
--- Rows a UID at a time (our own form): those that are left of what was asked for, and how many they are.
+-- Rows, one UID at a time (our own form): those that are left of what was asked for, and how many there are.
 use Rattle.std.specs.Prelude.{◌≡◌, ◌↔◌, ◌≤◌, ℕ, List, [], ◌∷◌, ◌++◌, length, drop, map, Option, Some, None}
 use Rattle.itip_items.specs.declared.item.Item.{Item}
 use Rattle.itip_view.specs.ListText.{list_text}
@@ -16,11 +16,11 @@ use Rattle.itip_view.specs.declared.window.Window.{Window}
 abbrev pub uids_of : RowsByUid → List (List ℕ)
 uids_of asked = drop asked.done (map (λ uid. uid.now) asked.uids.items)
 
--- how many they are
+-- how many there are
 abbrev pub uids_left : RowsByUid → ℕ
 uids_left asked = length (uids_of asked)
 
--- a row of a UID that is left, and it is wanted
+-- a wanted row of a UID that is left
 abbrev pub IsAskedFor : RowsByUid → Row → Type 0
 IsAskedFor asked = IsAmong (uids_of asked) (Wants asked.wanted)
 
@@ -28,14 +28,14 @@ IsAskedFor asked = IsAmong (uids_of asked) (Wants asked.wanted)
 abbrev pub AreLeft : RowsByUid → List Row → Type 0
 AreLeft asked rows = AreRowsWhere (IsAskedFor asked) asked.state.now asked.window rows
 
--- of the rows of this set in this window those are asked for of which this holds
+-- of the rows of this set in this window, those for which P holds are asked for
 pub record AreAsked (P : Row → Type 0) (heard : List Item) (window : Window) (asked : RowsByUid) : Type 0 where
   pub state_is : asked.state.now ≡ heard
   pub window_is : asked.window ≡ window
   pub alike : (row : Row) → IsRow heard window row → IsAskedFor asked row ↔ P row
 
--- These are the rows of the first UID that is left, all that are wanted, and the other UIDs are left. So they are in front of the
--- rows that are left.
+-- These are all wanted rows of the first UID that was left, and the other UIDs are left now. So these rows come before the rows that
+-- are left.
 pub record IsPart (old new : RowsByUid) (rows : List Row) : Type 0 where
   pub uid : List ℕ
   pub uids_are : uids_of old ≡ uid ∷ uids_of new
@@ -46,18 +46,18 @@ pub record IsPart (old new : RowsByUid) (rows : List Row) : Type 0 where
   pub joins : (rest : List Row) → AreLeft new rest → AreLeft old (rows ++ rest)
   pub splits : (all : List Row) → AreLeft old all → (rest : List Row) × AreLeft new rest × (all ≡ rows ++ rest)
 
--- no UID is left, so no row; and nothing has changed, so it stays so
+-- no UID is left, so no row is; and nothing has changed, so it stays that way
 pub record IsDone (old new : RowsByUid) : Type 0 where
   pub no_uid : uids_of old ≡ []
   pub no_row : (rows : List Row) → AreLeft old rows ↔ (rows ≡ [])
   pub same : new ≡ old
 
--- the rows of the next UID, or that none is left
+-- the rows of the next UID, or none is left
 abbrev pub IsNextOf : RowsByUid → RowsByUid → Option (List Row) → Type 0
 IsNextOf old new None = IsDone old new
 IsNextOf old new (Some rows) = IsPart old new rows
 
--- so many rows are left, and they are no more than a list may have
+-- `number` rows are left, which is no more than a list may have
 pub record AreFewLeft (asked : RowsByUid) (number : ℕ) : Type 0 where
   pub rows : List Row
   pub are_left : AreLeft asked rows
@@ -68,12 +68,12 @@ pub record AreFewLeft (asked : RowsByUid) (number : ℕ) : Type 0 where
 abbrev pub AreTooManyLeft : RowsByUid → Type 0
 AreTooManyLeft asked = AreTooManyWhere (IsAskedFor asked) asked.state.now asked.window
 
--- how many rows are left, or that they are too many and which to-do has the most of them
+-- how many rows are left; or there are too many, and which to-do has the most of them
 abbrev pub IsCountOf : RowsByUid → RowCount → Type 0
 IsCountOf asked (Few number) = AreFewLeft asked number
 IsCountOf asked (TooMany most) = AreTooManyLeft asked × HasMost (IsAskedFor asked) asked.state.now asked.window most
 
--- the text of the rows that are left, where there are not too many
+-- the text of the rows that are left, if there are not too many
 pub record IsTextLeft (asked : RowsByUid) (text : List ℕ) : Type 0 where
   pub rows : List Row
   pub are_left : AreLeft asked rows

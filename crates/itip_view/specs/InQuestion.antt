@@ -21,7 +21,7 @@ pub record OccursAt (heard : List Item) (uid : List ℕ) (at : Moment) : Type 0 
   pub repeats : IsSeriesOf item.todo series
   pub occurs : Occurs series at
 
--- an occurrence at which no instance item stands, and the item governs it
+-- the item governs an occurrence at which no instance item stands
 pub record GovernsOccurrence (heard : List Item) (uid : List ℕ) (at : Moment) (item : Item) : Type 0 where
   pub none_stands : NoneStands heard uid at
   pub occurs : OccursAt heard uid at
@@ -72,7 +72,7 @@ abbrev pub ShowsInQuestion : List Item → List ℕ → Option Moment → Item �
 ShowsInQuestion heard uid None item shown = ShowsWhole heard uid item shown
 ShowsInQuestion heard uid (Some at) item shown = ShowsInstance heard uid at item shown ⊎ ShowsBetween heard uid at item shown
 
--- what is found where a row is in question, or that none is
+-- the row in question was found, or none is in question
 abbrev pub IsRowFound : List Item → List ℕ → Option Moment → Option RowInQuestion → Type 0
 IsRowFound heard uid id found =
     MatchOption found (NoneInQuestion heard uid id) (λ row. ShowsInQuestion heard uid id row.item.now row.attendees)

@@ -15,14 +15,14 @@ module _ (view : UidView) where
   abbrev pub HasWhole : Type 0
   HasWhole = IsWhole view.items.now.items view.items.now.uid view.whole
 
-  -- what governs its occurrences in the window is that of its kept items
+  -- what governs its occurrences in the window comes from its kept items
   abbrev pub HasBetween : Type 0
   HasBetween = IsBetween view.items.now view.window view.between
 
   abbrev pub HasItsRows : List Row → Type 0
   HasItsRows rows = AreRowsOf view.items.now.items view.window view.items.now.uid rows
 
-  -- its rows may stand at these moments
+  -- its places are the moments at which there may be rows
   abbrev pub HasPlaces : Type 0
   HasPlaces = ArePlaces view.items.now.items view.window view.items.now.uid view.places.items
 
@@ -45,11 +45,11 @@ module _ (view : UidView) where
   abbrev pub HasLiveSeries : Item → Type 0
   HasLiveSeries item = IsLiveSeries view.items.now.items view.items.now.uid item
 
-  -- nothing stands at DTSTART of the series item
+  -- no instance item stands at DTSTART of the series item
   abbrev pub HasNoneAtStart : Item → Type 0
   HasNoneAtStart series = NoneStandsAtStart view.items.now.items view.items.now.uid series.todo.start
 
--- what a view has of its UID is what its kept items tell
+-- what a view knows of its UID follows from its kept items
 pub record HasAll (view : UidView) : Type 0 where
   pub whole : HasWhole view
   pub between : HasBetween view

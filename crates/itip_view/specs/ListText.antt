@@ -58,7 +58,7 @@ row_text row =
 abbrev pub list_text : List Row → List ℕ
 list_text rows = flat_map row_text rows
 
--- the text of the view of a set in a window, where at most 100,000 rows stand there
+-- the text of the view of a set in a window, if it has at most 100,000 rows
 pub record IsListText (heard : List Item) (window : Window) (text : List ℕ) : Type 0 where
   pub rows : List Row
   pub are_rows : AreRows heard window rows

@@ -13,20 +13,20 @@ use Rattle.itip_view.specs.declared.most.RowCount.TheVariants.{Few, TooMany}
 use Rattle.itip_view.specs.declared.row.Row.{Row}
 use Rattle.itip_view.specs.declared.window.Window.{Window}
 
--- so many of the rows in the window of which this holds are of the UID
+-- `number` of the rows in the window for which P holds are of the UID
 pub record HasRows (P : Row → Type 0) (heard : List Item) (window : Window) (uid : List ℕ) (number : ℕ) : Type 0 where
   pub rows : List Row
   pub are_rows : AreRowsWhere (IsOf uid P) heard window rows
   pub number_is : length rows ≡ number
 
--- so many are of this UID, none has more, and each other that has as many is greater by octets
+-- the UID has this many, at least one; none has more, and any other that has as many is greater by bytes
 pub record HasMost (P : Row → Type 0) (heard : List Item) (window : Window) (most : MostRows) : Type 0 where
   pub some : 0 < most.rows
   pub has : HasRows P heard window most.uid most.rows
   pub no_more : (uid : List ℕ) (number : ℕ) → HasRows P heard window uid number → number ≤ most.rows
   pub least : (uid : List ℕ) → HasRows P heard window uid most.rows → uid ≢ most.uid → slice_cmp nat_cmp most.uid uid ≡ Less
 
--- the UID with the most rows, or that it holds of no row
+-- the UID with the most rows, or P holds for no row
 abbrev pub IsMostOf : (Row → Type 0) → List Item → Window → Option MostRows → Type 0
 IsMostOf P heard window None = (row : Row) → IsRow heard window row → ¬ P row
 IsMostOf P heard window (Some most) = HasMost P heard window most
@@ -44,14 +44,14 @@ abbrev pub IsMostAmong : (Row → Type 0) → List Item → Window → List (Lis
 IsMostAmong P heard window uids None = (uid : List ℕ) → Contains uids uid → HasRows P heard window uid 0
 IsMostAmong P heard window uids (Some most) = HasMostAmong P heard window uids most
 
--- so many rows of these UIDs there are of which it holds, and no more than a list may have
+-- P holds for `number` rows of these UIDs, which is no more than a list may have
 pub record AreFewAmong (P : Row → Type 0) (heard : List Item) (window : Window) (uids : List (List ℕ)) (number : ℕ) : Type 0 where
   pub rows : List Row
   pub are_rows : AreRowsWhere (IsAmong uids P) heard window rows
   pub number_is : length rows ≡ number
   pub few : number ≤ row_limit
 
--- how many there are, or that they are too many and which UID has the most of them
+-- how many there are; or there are too many, and which UID has the most of them
 abbrev pub IsCountAmong : (Row → Type 0) → List Item → Window → List (List ℕ) → RowCount → Type 0
 IsCountAmong P heard window uids (Few number) = AreFewAmong P heard window uids number
 IsCountAmong P heard window uids (TooMany most) =

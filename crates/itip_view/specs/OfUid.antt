@@ -1,4 +1,4 @@
--- The rows of one UID (our own form): what is known of its series item, where its rows may stand, and what each place shows.
+-- The rows of one UID (our own form): what is known of its series item, where it may have rows, and what each place shows.
 use Rattle.std.specs.Prelude.{◌≡◌, ◌↔◌, ℕ, List, ◌∷◌, Option, Some, None, map}
 use denote.Ref.{Bor}
 use Rattle.std.specs.List.{Contains}
@@ -26,7 +26,7 @@ use Rattle.itip_view.specs.declared.row.RowId.{RowId}
 use Rattle.itip_view.specs.declared.whole.Whole.{Whole}
 use Rattle.itip_view.specs.declared.window.Window.{Window}
 
--- the best series item of a UID, or that none was heard
+-- the best series item of a UID, or none was heard
 abbrev pub IsSeriesItem : List Item → List ℕ → Option Item → Type 0
 IsSeriesItem heard uid = IsBestOf heard (key.Series uid)
 
@@ -35,11 +35,11 @@ abbrev pub StandsBesideOf : Option Item → Item → Type 0
 StandsBesideOf None item = Unit {0}
 StandsBesideOf (Some series) item = StandsBeside series item
 
--- the answers of the attendee of a key to an instance, or to the to-do as a whole, from a sequence on
+-- the answers by the attendee with this key to an instance, or to the to-do as a whole, from a sequence on
 abbrev pub to_question : List ℕ → List ℕ → Question → Asked
 to_question uid attendee question = record { key = key.Answer uid (option_copied question.id) attendee; since = question.since }
 
--- one question and no other
+-- a single question
 abbrev pub only : Option (Bor Moment) → ℕ → Questions
 only id since = record { first = record { id = id; since = since }; second = None }
 
@@ -50,15 +50,15 @@ in_turn at own since = record { first = record { id = Some at; since = own }; se
 abbrev pub listed : Questions → List Question
 listed questions = questions.first ∷ option_to_list questions.second
 
--- where the answers of the attendee of a key are looked for: those to each of these
+-- where the answers by the attendee with this key are looked for: those to each of these questions
 abbrev pub asked_of : List ℕ → Questions → List ℕ → List Asked
 asked_of uid questions attendee = map (to_question uid attendee) (listed questions)
 
--- where the answers of the attendee of a line are looked for
+-- where the answers by the attendee of a line are looked for
 abbrev pub asked_by : List ℕ → Questions → Property → List Asked
 asked_by uid questions line = asked_of uid questions (attendee_key line.value)
 
--- a row with this name and these dates, and what else it shows of the item that governs it
+-- a row with this identifier and these dates, and what else it shows of the item that governs it
 pub record IsRowOf (heard : List Item) (item : Item) (uid : List ℕ) (id : RowId) (start due : Option Moment)
     (asked : Property → List Asked) (row : Row) : Type 0 where
   pub uid_is : row.uid ≡ uid
@@ -75,12 +75,12 @@ pub record IsRowAt (heard : List Item) (window : Window) (uid : List ℕ) (at : 
   pub uid_is : row.uid ≡ uid
   pub at_is : moment_of row.id ≡ at
 
--- what has a row there, or that nothing has
+-- the row there, or there is none
 abbrev pub IsAnswerAt : List Item → Window → List ℕ → Option Moment → Option Row → Type 0
 IsAnswerAt heard window uid at None = (row : Row) → IsRowAt heard window uid at row → ⊥
 IsAnswerAt heard window uid at (Some row) = IsRowAt heard window uid at row
 
--- the live series item of a UID and how it recurs, or that no series item is live
+-- the live series item of a UID and how it recurs, or no series item is live
 abbrev pub IsWhole : List Item → List ℕ → Option Whole → Type 0
 IsWhole heard uid None = (item : Item) → ¬ IsLiveSeries heard uid item
 IsWhole heard uid (Some whole) = IsLiveSeries heard uid whole.item.now × IsShape whole.item.now.todo whole.shape
@@ -97,13 +97,13 @@ pub record IsOccurrence (heard : List Item) (window : Window) (uid : List ℕ) (
 abbrev pub AreOccurrencesOf : List Item → Window → List ℕ → List Moment → Type 0
 AreOccurrencesOf heard window uid moments = (at : Moment) → Contains moments at ↔ IsOccurrence heard window uid at
 
--- what governs where no instance item stands: the live series item of the UID, or a range item; nothing is known of them
--- where nothing occurs in the window
+-- what governs where no instance item stands: the live series item of the UID, or a range item; `None` only if nothing occurs in
+-- the window
 abbrev pub IsBetween : UidPart → Window → Option Between → Type 0
 IsBetween part window None = (at : Moment) → ¬ IsOccurrence part.items window part.uid at
 IsBetween part window (Some between) = IsLiveSeries part.items part.uid between.series.item.now × (between.ranges ≡ part)
 
--- the moments at which rows may stand: those at which instance items stand, and the occurrences
+-- the moments at which there may be rows: those at which instance items stand, and the occurrences
 pub record ArePlaces (heard : List Item) (window : Window) (uid : List ℕ) (moments : List Moment) : Type 0 where
   pub ascend : IsStrictlySortedBy moment_cmp moments
   pub instances : (at : Moment) (item : Item) → Stands heard uid at item → Contains moments at

@@ -1,5 +1,5 @@
--- The rows of a UID before they are made (our own form): what governs a row, what names it, which dates it shows and which
--- answers it asks.
+-- The rows of a UID before they are made (our own form): what governs a row, what identifies it, which dates it shows and which
+-- answers it asks for.
 use Rattle.std.specs.Prelude.{◌≡◌, ℕ, Bool, false, List, Option, Some, None, max, length}
 use Rattle.std.specs.List.{filter}
 use Rattle.itip_moment.specs.declared.moment.Moment.{Moment}
@@ -24,7 +24,7 @@ abbrev pub governing_item : Governing → Item
 governing_item (Plain item) = item.now
 governing_item (Keyed keyed) = keyed.now.item.now
 
--- what names the row
+-- what identifies the row
 abbrev pub id_of : RowKind → RowId
 id_of Single = id.Single
 id_of Opaque = id.Opaque
@@ -32,7 +32,7 @@ id_of (Instance at) = id.At at.now
 id_of (Occurrence at start) = id.At at.now
 id_of (Ranged at from series) = id.At at.now
 
--- which answers it asks, where this item governs it
+-- which answers it asks for, if this item governs it
 abbrev pub questions_of : Item → RowKind → Questions
 questions_of item Single = only None item.own
 questions_of item Opaque = only None item.own
@@ -50,12 +50,12 @@ pub record HasMoved (item : Item) (at from : Moment) (start due : Option Moment)
   pub start_is : start ≡ Some at
   pub due_is : IsDueOf item.todo.due from at due
 
--- those of an occurrence that a range item from an id on rules
+-- those of an occurrence that is ruled by a range item from an id on
 pub record HasRanged (item : Item) (at from : Moment) (start due : Option Moment) : Type 0 where
   pub start_is : IsStartFrom item.todo.start from at start
   pub due_is : IsDueFrom item.todo.due from at due
 
--- the dates that it shows, where this item governs it
+-- the dates that it shows, if this item governs it
 abbrev pub HasDates : Item → RowKind → Option Moment → Option Moment → Type 0
 HasDates item Single start due = HasOwn item start due
 HasDates item Opaque start due = HasOwn item start due
@@ -63,7 +63,7 @@ HasDates item (Instance at) start due = HasOwn item start due
 HasDates item (Occurrence at from) start due = HasMoved item at.now from.now start due
 HasDates item (Ranged at from series) start due = HasRanged item at.now from.now start due
 
--- the row as it is made of the items of the UID
+-- the row as it is made from the items of the UID
 pub record IsShownAt (part : UidPart) (place : RowPlace) (row : Row) : Type 0 where
   pub start : Option Moment
   pub due : Option Moment
@@ -71,12 +71,12 @@ pub record IsShownAt (part : UidPart) (place : RowPlace) (row : Row) : Type 0 wh
   pub row_is : IsRowOf part.items (governing_item place.governing) part.uid (id_of place.kind) start due
       (asked_by part.uid (questions_of (governing_item place.governing) place.kind)) row
 
--- what has a row at this moment, or without one: made, it is the row there; or that nothing has
+-- the place of the row at this moment, or of the one without a moment: made, it is the row there; or there is no row
 abbrev pub IsPlaceAt : UidPart → Window → Option Moment → Option RowPlace → Type 0
 IsPlaceAt part window at None = (row : Row) → IsRowAt part.items window part.uid at row → ⊥
 IsPlaceAt part window at (Some place) = (row : Row) → IsShownAt part place row → IsRowAt part.items window part.uid at row
 
--- the row of a place, where there is one
+-- the row of a place, if there is one
 abbrev pub IsMade : UidPart → Option RowPlace → Option Row → Type 0
 IsMade part None row = row ≡ None
 IsMade part (Some place) row = (made : Row) × (row ≡ Some made) × IsShownAt part place made
@@ -86,7 +86,7 @@ abbrev pub IsWanted : Wanted → UidPart → Option RowPlace → Bool → Type 0
 IsWanted wanted part None is = is ≡ false
 IsWanted wanted part (Some place) is = (row : Row) × IsShownAt part place row × (wants wanted row ≡ is)
 
--- so many rows of the UID are asked for
+-- `number` rows of the UID are asked for
 pub record AreWanted (wanted : Wanted) (part : UidPart) (window : Window) (number : ℕ) : Type 0 where
   pub rows : List Row
   pub are_rows : AreRowsOf part.items window part.uid rows

@@ -1,4 +1,4 @@
--- How far the attendees of a row are (our own rule).
+-- The progress of a row: how far its attendees are (our own rule).
 use Rattle.std.specs.Prelude.{ℕ, List, [], ◌∷◌, ◌/◌, length, sum, Option, Some, None, option_to_list}
 use Rattle.std.specs.List.{flat_map}
 use Rattle.itip_view.specs.declared.row.ShownAttendee.{ShownAttendee}
@@ -12,6 +12,6 @@ abbrev pub mean : List ℕ → Option ℕ
 mean [] = None
 mean (n ∷ ns) = Some (sum (n ∷ ns) / length (n ∷ ns))
 
--- the mean of the percentages that are shown; absent where none is
+-- the mean of the percentages that are shown; absent if there are none
 abbrev pub progress_of : List ShownAttendee → Option ℕ
 progress_of shown = mean (percents shown)

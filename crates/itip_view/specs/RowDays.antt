@@ -1,4 +1,4 @@
--- On which days the rows of an item can stand, and which items name an attendee of a row (our own rules).
+-- The days on which the rows of an item can fall, and which items name an attendee of a row (our own rules).
 use Rattle.std.specs.Prelude.{◌≡◌, ℕ, ℤ, Bool, true, false, cond, List, Option, Some, None}
 use Rattle.std.specs.List.{Contains}
 use Rattle.std.specs.Option.{option_map}
@@ -17,7 +17,7 @@ use Rattle.itip_view.specs.declared.days.RowDays.{RowDays}
 use Rattle.itip_view.specs.declared.days.RowDays.TheVariants.{One, Any}
 use Rattle.itip_view.specs.declared.window.Window.{Window}
 
--- rows can be governed by items of these keys: of a to-do as a whole, of an instance, and of an instance and all after it
+-- items of these keys can govern rows: of a to-do as a whole, of an instance, and of an instance and all after it
 abbrev pub is_of_rows : Key → Bool
 is_of_rows (Series uid) = true
 is_of_rows (Instance uid id) = true
@@ -25,11 +25,11 @@ is_of_rows (Range uid id) = true
 is_of_rows (Answer uid id attendee) = false
 is_of_rows (Refresh uid id attendee) = false
 
--- a row can be governed by the item, which is live
+-- the item can govern a row: it has such a key, and is live
 abbrev pub has_rows : Item → Bool
 has_rows item = cond (is_of_rows item.key) (is_live item.kind) false
 
--- a to-do that doesn't recur has its row on its day; without a day, and where it recurs, its rows can stand on any day
+-- a to-do that doesn't recur has its row on its day; without a day, or if it recurs, its rows can fall on any day
 abbrev pub days_from : Bool → Option ℤ → RowDays
 days_from true day = Any
 days_from false None = Any
@@ -38,7 +38,7 @@ days_from false (Some day) = One day
 abbrev pub whole_days : Todo → RowDays
 whole_days todo = days_from (are_given todo.rule todo.rdates todo.exdates todo.others) (day_of todo.start todo.due)
 
--- the rows of an instance and all after it stand where the to-do as a whole has its rows
+-- the rows of an instance and all after it fall on the days of the to-do as a whole
 abbrev pub days_at : Key → Item → Option RowDays
 days_at (Series uid) item = Some (whole_days item.todo)
 days_at (Instance uid id) item = option_map One (instance_day id item.todo.start)
@@ -46,7 +46,7 @@ days_at (Range uid id) item = None
 days_at (Answer uid id attendee) item = None
 days_at (Refresh uid id attendee) item = None
 
--- the days on which the rows can stand for which an item is needed
+-- the days on which the rows that need the item can fall
 abbrev pub row_days : Item → Option RowDays
 row_days item = cond (is_live item.kind) (days_at item.key item) None
 

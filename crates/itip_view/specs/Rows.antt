@@ -27,7 +27,7 @@ use Rattle.itip_view.specs.declared.row.RowId.{RowId}
 use Rattle.itip_view.specs.declared.row.RowId.TheVariants as id
 use Rattle.itip_view.specs.declared.window.Window.{Window}
 
--- the most rows of a list (our own limit)
+-- the most rows that a list may have (our own limit)
 abbrev pub row_limit : ℕ
 row_limit = 100_000
 
@@ -39,7 +39,7 @@ pub record HasFields (item : Item) (row : Row) : Type 0 where
   pub priority : row.priority ≡ item.todo.priority
   pub summary : row.summary ≡ option_map (λ (p : Property). p.value) item.todo.summary
 
--- how far those are that the row shows
+-- the progress of the attendees that the row shows
 abbrev pub HasProgress : Row → Type 0
 HasProgress row = row.progress ≡ progress_of row.attendees
 
@@ -52,21 +52,21 @@ pub record HasOwnDates (item : Item) (row : Row) : Type 0 where
 abbrev pub answers_since : ℕ → List ℕ → Option Moment → Property → Asked
 answers_since since uid id line = record { key = answer_key uid id line; since = since }
 
--- where the answers of an attendee are looked for: on the row of an instance those to the instance
+-- where the answers of an attendee are looked for: on the row of an instance, those to the instance
 abbrev pub instance_answers : List ℕ → Moment → Item → Property → List Asked
 instance_answers uid at item line = answers_since item.own uid (Some at) line ∷ []
 
--- on the row of an occurrence those to the occurrence, then those to the to-do as a whole
+-- on the row of an occurrence, those to the occurrence, then those to the to-do as a whole
 abbrev pub occurrence_answers : List ℕ → Moment → Item → Property → List Asked
 occurrence_answers uid at item line = answers_since item.own uid (Some at) line ∷ answers_since item.own uid None line ∷ []
 
--- on the row of an occurrence that a range item rules the same, where those to the to-do as a whole are no earlier than the
+-- on the row of an occurrence that a range item rules, the same, but those to the to-do as a whole are no earlier than the
 -- series item either
 abbrev pub range_answers : List ℕ → Moment → Item → Item → Property → List Asked
 range_answers uid at item series line =
     answers_since item.own uid (Some at) line ∷ answers_since (max item.own series.own) uid None line ∷ []
 
--- on any other row those to the to-do as a whole
+-- on any other row, those to the to-do as a whole
 abbrev pub series_answers : List ℕ → Item → Property → List Asked
 series_answers uid item line = answers_since item.own uid None line ∷ []
 
@@ -95,12 +95,12 @@ days_to start m = moment_day m -ℤ moment_day start
 abbrev pub seconds_to : Moment → Moment → ℤ
 seconds_to start m = pos (unwrap_or (moment_second m) 0) -ℤ pos (unwrap_or (moment_second start) 0)
 
--- the moment shown is a date, moved as far as one moment lies from another
+-- the moment shown is a date, moved by the distance from one moment to another
 pub record IsMoved (date start m shown : Moment) : Type 0 where
   pub can : CanShift date (days_to start m) (seconds_to start m)
   pub shifted : IsShifted date (days_to start m) (seconds_to start m) shown
 
--- DUE of an occurrence: absent where the to-do has none, where occurrence and DTSTART differ in form or zone, and where it can't be moved
+-- DUE of an occurrence: absent if the to-do has none, if occurrence and DTSTART differ in form or zone, or if it can't be moved
 abbrev pub IsDueOf : Option Moment → Moment → Moment → Option Moment → Type 0
 IsDueOf None start m shown = shown ≡ None
 IsDueOf (Some due) start m None = HaveOneForm start m → CanShift due (days_to start m) (seconds_to start m) → ⊥
@@ -123,18 +123,18 @@ pub record IsOccurrenceRow (heard : List Item) (window : Window) (row : Row) : T
   pub attendees : AreShown heard (occurrence_answers row.uid at item) item.todo.attendees row.attendees
   pub progress : HasProgress row
 
--- A date of a range item as an occurrence shows it: moved as far as the occurrence lies from the id; absent where its form or
--- zone isn't that of the id, and where it can't be moved.
+-- A date of a range item as an occurrence shows it: moved by the distance from the id to the occurrence; absent if its form or
+-- zone isn't that of the id, or if it can't be moved.
 abbrev pub IsDateFrom : Moment → Moment → Moment → Option Moment → Type 0
 IsDateFrom date from at None = HaveOneForm from date → CanShift date (days_to from at) (seconds_to from at) → ⊥
 IsDateFrom date from at (Some shown) = HaveOneForm from date × IsMoved date from at shown
 
--- START: of DTSTART; the occurrence itself where the item has none
+-- START: from DTSTART, or the occurrence itself if the item has none
 abbrev pub IsStartFrom : Option Moment → Moment → Moment → Option Moment → Type 0
 IsStartFrom None from at shown = shown ≡ Some at
 IsStartFrom (Some start) from at shown = IsDateFrom start from at shown
 
--- DUE: absent where the item has none
+-- DUE: absent if the item has none
 abbrev pub IsDueFrom : Option Moment → Moment → Moment → Option Moment → Type 0
 IsDueFrom None from at shown = shown ≡ None
 IsDueFrom (Some due) from at shown = IsDateFrom due from at shown
@@ -183,7 +183,7 @@ pub record IsSingleRow (heard : List Item) (window : Window) (row : Row) : Type 
   pub attendees : AreShown heard (series_answers row.uid item) item.todo.attendees row.attendees
   pub progress : HasProgress row
 
--- the row of a live to-do whose recurrence isn't expanded; it stands in each window
+-- the row of a live to-do whose recurrence isn't expanded; it is in every window
 pub record IsOpaqueRow (heard : List Item) (window : Window) (row : Row) : Type 0 where
   pub item : Item
   pub live : IsLiveSeries heard row.uid item
@@ -194,7 +194,7 @@ pub record IsOpaqueRow (heard : List Item) (window : Window) (row : Row) : Type 
   pub attendees : AreShown heard (series_answers row.uid item) item.todo.attendees row.attendees
   pub progress : HasProgress row
 
--- the row is one of the view of a set in a window
+-- the row belongs to the view of a set in a window
 abbrev pub IsRow : List Item → Window → Row → Type 0
 IsRow heard window row =
     IsInstanceRow heard window row ⊎ (IsOccurrenceRow heard window row
@@ -212,7 +212,7 @@ pub record ShowsGoverning (heard : List Item) (row : Row) : Type 0 where
   pub governs : Governs heard row.uid (moment_of row.id) item
   pub fields : HasFields item row
 
--- rows by UID, then rows without a moment, then by moment
+-- the order of rows: by UID, then rows without a moment, then by moment
 abbrev pub row_cmp : Row → Row → Ordering
 row_cmp a b = ordering_then (slice_cmp nat_cmp a.uid b.uid) (option_cmp moment_cmp (moment_of a.id) (moment_of b.id))
 
@@ -226,7 +226,7 @@ pub record AreRows (heard : List Item) (window : Window) (rows : List Row) : Typ
   pub each : (row : Row) → Contains rows row → IsRow heard window row
   pub all : (row : Row) → IsRow heard window row → Contains rows row
 
--- more rows stand in the window than a list may have
+-- the window has more rows than a list may have
 pub record AreTooMany (heard : List Item) (window : Window) : Type 0 where
   pub some : List Row
   pub ascend : AscendRows some

@@ -26,7 +26,7 @@ pub record AreRanges (part : UidPart) (found : List RangeFrom) : Type 0 where
   pub all : (id : Moment) (item : Item) → StandsFrom part.items part.uid id item
       → (range : RangeFrom) × Contains found range × (range.id.now ≡ id) × (range.item.now ≡ item)
 
--- by their ids
+-- sorted by their ids
 abbrev pub AscendRanges : List RangeFrom → Type 0
 AscendRanges found = (i j : ℕ) (d : RangeFrom) → i ≤ j → j < length found
     → is_gt (range_cmp (slice_index_or found i d).id.now (slice_index_or found j d).id.now) ≡ false
@@ -35,7 +35,7 @@ pub record AreRangesInOrder (part : UidPart) (found : List RangeFrom) : Type 0 w
   pub ascend : AscendRanges found
   pub are : AreRanges part found
 
--- the range item at a place of those held rules the moment
+-- the range item at this index rules the moment
 pub record RulesAt (part : UidPart) (found : List RangeFrom) (at : Moment) (place : ℕ) : Type 0 where
   pub range : RangeFrom
   pub inside : place < length found

@@ -1,4 +1,4 @@
--- Which item stands at an instance or from one on, and which one governs a place of the list (our own rules).
+-- Which item stands at an instance, or from one on, and which item governs a place of the list (our own rules).
 use Rattle.std.specs.Prelude.{◌≡◌, ◌≢◌, ◌⊎◌, ◌≤◌, ◌<◌, ℕ, Bool, true, false, List, Option, Some, None, if◌then◌else◌}
 use Rattle.std.specs.declared.cmp.Ordering.TheVariants.{Less}
 use Rattle.itip_moment.specs.Moment.{moment_form, moment_zone}
@@ -11,7 +11,7 @@ use Rattle.itip_items.specs.declared.kind.Kind.{Kind}
 use Rattle.itip_items.specs.declared.kind.Kind.TheVariants as kind
 use Rattle.itip_state.specs.Kept.{IsBest}
 
--- what was asked for or added is live, what was cancelled is not; answers and the like are of no series, instance or range
+-- an item of a REQUEST or an ADD is live, a cancelled one is not; the other kinds are of no series, instance or range
 abbrev pub is_live : Kind → Bool
 is_live kind.Request = true
 is_live kind.Add = true
@@ -23,38 +23,38 @@ is_live kind.Refresh = false
 abbrev pub IsLive : Item → Type 0
 IsLive item = is_live item.kind ≡ true
 
--- an item where it is live
+-- the item, if it is live
 abbrev pub if_live : Option Item → Option Item
 if_live None = None
 if_live (Some item) = if is_live item.kind then Some item else None
 
--- said of series, instance and range items alone
+-- meant only for series, instance and range items
 abbrev pub IsCancelled : Item → Type 0
 IsCancelled item = is_live item.kind ≡ false
 
--- An instance or range item stands beside a live series item that it is not below, which is where it isn't dead, and beside a
+-- An instance or range item stands beside a live series item that it is not below, which is when it isn't dead, and beside a
 -- cancelled one that it is above.
 pub record StandsBeside (series item : Item) : Type 0 where
   pub live : IsLive series → series.eff ≤ item.eff
   pub cancelled : IsCancelled series → series.eff < item.eff
 
--- the item stands: it is the best one of its key, and stands beside the best series item where there is one
+-- the item stands: it is the best one of its key, and stands beside the best series item if there is one
 pub record StandsUnder (heard : List Item) (uid : List ℕ) (key : Key) (item : Item) : Type 0 where
   pub best : IsBest heard key item
   pub beside : (series : Item) → IsBest heard (Series uid) series → StandsBeside series item
 
--- at an instance
+-- the item stands at an instance
 abbrev pub Stands : List Item → List ℕ → Moment → Item → Type 0
 Stands heard uid id item = StandsUnder heard uid (Instance uid id) item
 
 abbrev pub NoneStands : List Item → List ℕ → Moment → Type 0
 NoneStands heard uid id = (item : Item) → ¬ Stands heard uid id item
 
--- from an instance on: a range item
+-- the range item stands from an instance on
 abbrev pub StandsFrom : List Item → List ℕ → Moment → Item → Type 0
 StandsFrom heard uid id item = StandsUnder heard uid (Range uid id) item
 
--- two moments of one form and one zone
+-- two moments with the same form and the same zone
 pub record HaveOneForm (start m : Moment) : Type 0 where
   pub form : moment_form m ≡ moment_form start
   pub zone : moment_zone m ≡ moment_zone start
@@ -64,7 +64,7 @@ pub record Reaches (id at : Moment) : Type 0 where
   pub one_form : HaveOneForm id at
   pub not_before : moment_cmp at id ≢ Less
 
--- the range item that rules a moment: of those that stand and reach it the one with the greatest id
+-- the range item that rules a moment: of those that stand and reach it, the one with the greatest id
 pub record Rules (heard : List Item) (uid : List ℕ) (at id : Moment) (item : Item) : Type 0 where
   pub stands : StandsFrom heard uid id item
   pub reaches : Reaches id at
@@ -89,13 +89,13 @@ pub record IsLiveRange (heard : List Item) (uid : List ℕ) (at : Moment) (item 
   pub rules : Rules heard uid at id item
   pub live : IsLive item
 
--- what governs a moment at which no instance item stands: the range item that rules it, where that is live, or, where none
--- rules it, the live series item
+-- what governs a moment at which no instance item stands: the range item that rules it, if that is live, or the live series
+-- item if none rules it
 abbrev pub GovernsBetween : List Item → List ℕ → Moment → Item → Type 0
 GovernsBetween heard uid at item = IsLiveRange heard uid at item ⊎ (NoneRules heard uid at × IsLiveSeries heard uid item)
 
--- The item that governs a to-do as a whole is its live series item. At an instance it is the one that stands there and is live,
--- or, where none stands there, what governs the moment.
+-- The item that governs a to-do as a whole is its live series item. At an instance it is the one that stands there and is live or,
+-- if none stands there, what governs the moment.
 abbrev pub Governs : List Item → List ℕ → Option Moment → Item → Type 0
 Governs heard uid None item = IsLiveSeries heard uid item
 Governs heard uid (Some at) item = IsLiveInstance heard uid at item ⊎ (NoneStands heard uid at × GovernsBetween heard uid at item)

@@ -9,7 +9,7 @@ use Rattle.itip_view.specs.declared.row.ShownAttendee.{ShownAttendee}
 abbrev pub begins_with_todo : List ℕ → Bool
 begins_with_todo bytes = starts_with nat_eq bytes (codes "TODO")
 
--- how many lines begin with TODO, where the flag tells whether the text stands at the beginning of a line
+-- how many lines begin with TODO; the flag says whether the text starts at the beginning of a line
 unfoldable pub todo_lines_from : Bool → List ℕ → ℕ
 todo_lines_from at_start [] = 0
 todo_lines_from at_start (b ∷ bytes) =
@@ -19,7 +19,7 @@ todo_lines_from at_start (b ∷ bytes) =
 abbrev pub todo_lines : List ℕ → ℕ
 todo_lines text = todo_lines_from true text
 
--- no line break stands in the text, as in none that a message brings
+-- the text has no line break; no text that a message brings has one
 abbrev pub IsUnbroken : List ℕ → Type 0
 IsUnbroken text = AllByRecursion (λ b. b ≢ 10) text
 
@@ -30,7 +30,7 @@ pub record HasUnbrokenAttendee (attendee : ShownAttendee) : Type 0 where
   pub address : IsUnbroken attendee.address
   pub percent : IfSome attendee.percent IsSmallNumber
 
--- no text of the row has a line break, and its numbers are those of its types, or larger ones
+-- no text of the row has a line break, and its numbers fit into 64 bits, as those of its types do
 pub record HasUnbrokenTexts (row : Row) : Type 0 where
   pub uid : IsUnbroken row.uid
   pub id : IsUnbroken (id_text row.id)

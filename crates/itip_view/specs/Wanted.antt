@@ -28,33 +28,33 @@ is_done part.Delegated = true
 is_done part.Completed = true
 is_done part.InProcess = false
 
--- the attendee of an address; where only open rows are asked for, with something left to do
+-- the attendee of an address, with something left to do if only open rows are asked for
 abbrev pub is_asked : Bool → List ℕ → ShownAttendee → Bool
 is_asked only address attendee = is_named address attendee && not (only && is_done attendee.partstat)
 
--- the same of an attendee who may be left out
+-- the same for an attendee who may be left out
 abbrev pub is_some_asked : Bool → List ℕ → Option ShownAttendee → Bool
 is_some_asked only address None = false
 is_some_asked only address (Some attendee) = is_asked only address attendee
 
--- one of these is the attendee who is named; where none is, any will do
+-- one of these is the attendee who is named; true if none is named
 abbrev pub shows_named : Bool → Option (List ℕ) → List ShownAttendee → Bool
 shows_named only None attendees = true
 shows_named only (Some address) attendees = list_any (is_asked only address) attendees
 
--- a to-do of this STATUS is done or cancelled
+-- a to-do with this STATUS is completed or cancelled
 abbrev pub is_closed : Status → Bool
 is_closed status.NeedsAction = false
 is_closed status.Completed = true
 is_closed status.InProcess = false
 is_closed status.Cancelled = true
 
--- without STATUS it is open
+-- a to-do without STATUS is open
 abbrev pub is_over : Option Status → Bool
 is_over None = false
 is_over (Some s) = is_closed s
 
--- DUE is before the day that is named, where one is
+-- DUE is before the day that is named; true if none is
 abbrev pub is_due_before : Option ℤ → Option Moment → Bool
 is_due_before None due = true
 is_due_before (Some day) None = false
@@ -64,7 +64,7 @@ is_due_before (Some day) (Some due) = int_lt (moment_day due) day
 abbrev pub is_overdue : ℤ → Row → Bool
 is_overdue today row = is_due_before (Some today) row.due && not (is_over row.status)
 
--- a row with this DUE and this STATUS is asked for, where it shows the attendee who is named
+-- a row with this DUE and this STATUS is asked for, provided that it shows the attendee who is named
 abbrev pub takes : Wanted → Option Moment → Option Status → Bool
 takes wanted due status = is_due_before wanted.due_before due && not (wanted.is_open && is_over status)
 

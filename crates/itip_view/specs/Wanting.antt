@@ -13,7 +13,7 @@ use Rattle.itip_view.specs.declared.row.Row.{Row}
 use Rattle.itip_view.specs.declared.row.ShownAttendee.{ShownAttendee}
 use Rattle.itip_view.specs.declared.wanted.Wanted.{Wanted}
 
--- STATUS says neither that the to-do is done nor that it is cancelled; a row without STATUS is open
+-- STATUS is neither COMPLETED nor CANCELLED; a row without STATUS is open
 pub record IsOpen (row : Row) : Type 0 where
   pub not_completed : row.status ≢ Some status.Completed
   pub not_cancelled : row.status ≢ Some status.Cancelled
@@ -35,7 +35,7 @@ abbrev pub IsLeftToNamed : Option (List ℕ) → Row → Type 0
 IsLeftToNamed None row = Unit {0}
 IsLeftToNamed (Some address) row = IsLeftTo address row
 
--- an open row; where an attendee is named, one in which they have something left to do
+-- an open row; if an attendee is named, one on which they have something left to do
 pub record IsOpenTo (named : Option (List ℕ)) (row : Row) : Type 0 where
   pub is_open : IsOpen row
   pub left : IsLeftToNamed named row
@@ -50,8 +50,8 @@ abbrev pub IsDueBeforeNamed : Option ℤ → Row → Type 0
 IsDueBeforeNamed None row = Unit {0}
 IsDueBeforeNamed (Some day) row = IsDueBefore day row
 
--- The row is asked for: it shows the attendee where one is named, it is open where only open rows are asked for, and it is due
--- before the day where one is named.
+-- The row is asked for: it shows the attendee if one is named, it is open if only open rows are asked for, and it is due before
+-- the day if one is named.
 pub record Wants (wanted : Wanted) (row : Row) : Type 0 where
   pub shows : ShowsNamed (option_copied wanted.attendee) row
   pub open_only : wanted.is_open ≡ true → IsOpenTo (option_copied wanted.attendee) row

@@ -6,7 +6,7 @@ pub record IsWindow (from to : ℤ) : Type 0 where
   pub some : from <ℤ to
   pub few : to ≤ℤ (from +ℤ pos 3660)
 
--- a day of the window; what has no day is in each window
+-- a day of the window; what has no day is in every window
 abbrev pub IsInWindow : ℤ → ℤ → Option ℤ → Type 0
 IsInWindow from to None = Unit {0}
 IsInWindow from to (Some day) = (from ≤ℤ day) × (day <ℤ to)

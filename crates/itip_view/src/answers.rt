@@ -19,21 +19,21 @@ use itip_state::ItemsOfUid;
 use itip_todo::{PartStat, Property, attendee_key, participation};
 use std::alloc::Global;
 
-/// The answers to an instance, or to the to-do as a whole, from a sequence on.
+/// A question for the answers to an instance, or to the to-do as a whole, whose SEQUENCE is at least `since`.
 #[derive(Drop)]
 pub(crate) struct Question<'q> {
     pub(crate) id: Option<&'q Moment>,
     pub(crate) since: u32,
 }
 
-/// Which answers a row asks: those to the first question, and where none of them counts those to the second.
+/// Which answers a row asks for: those to the first question or, if none of them counts, those to the second.
 #[derive(Drop)]
 pub(crate) struct Questions<'q> {
     pub(crate) first: Question<'q>,
     pub(crate) second: Option<Question<'q>>,
 }
 
-/// The answers to an instance, or to the to-do as a whole, from a sequence on, and no others.
+/// Only the answers to an instance, or to the to-do as a whole, from a sequence on.
 pub(crate) fn only(id: Option<&Moment>, since: u32) -> Questions<'_>
     ensures { result ≡ only id.entry since }
 {
@@ -43,7 +43,7 @@ pub(crate) fn only(id: Option<&Moment>, since: u32) -> Questions<'_>
     }
 }
 
-/// On the row of an occurrence: the answers to it from one sequence on, then those to the to-do as a whole from another.
+/// On the row of an occurrence: the answers to it from sequence `own` on, then those to the to-do as a whole from `since` on.
 pub(crate) fn in_turn(at: &Moment, own: u32, since: u32) -> Questions<'_>
     ensures { result ≡ in_turn at.entry own since }
 {
@@ -58,15 +58,15 @@ pub(crate) fn in_turn(at: &Moment, own: u32, since: u32) -> Questions<'_>
     }
 }
 
-/// The same where a range item rules the occurrence of a series.
+/// The same for an occurrence that a range item rules.
 pub(crate) fn in_turn_under<'q>(at: &'q Moment, range: &Item, series: &Item) -> Questions<'q>
     ensures { result ≡ in_turn at.entry range.now.own (max range.now.own series.now.own) }
 {
-    // An answer to the to-do as a whole is dead where it is earlier than the series, so it doesn't count here either (our own rule).
+    // An answer to the to-do as a whole is dead if it is earlier than the series, so it doesn't count here either (our own rule).
     in_turn(at, range.own, range.own.max(series.own))
 }
 
-/// Answers of a UID to these questions.
+/// A search for answers to these questions among the items of a UID.
 #[derive(Drop)]
 pub(crate) struct AnswerSearch<'v, 'a> {
     pub(crate) items: &'v ItemsOfUid<'a>,
@@ -74,7 +74,7 @@ pub(crate) struct AnswerSearch<'v, 'a> {
 }
 
 impl<'v, 'a> AnswerSearch<'v, 'a> {
-    /// The attendees that these lines show, in their order.
+    /// The attendees that these lines show, in order.
     pub(crate) fn shown_attendees(
         &self,
         alloc: Global,
@@ -93,8 +93,8 @@ impl<'v, 'a> AnswerSearch<'v, 'a> {
         Ok(ListOf::from_vec(attendees))
     }
 
-    /// Whether one of the attendees that these lines show is asked for: that of an address, where only open rows are asked for
-    /// with something left to do. Answers are looked up for that attendee alone.
+    /// Whether one of the attendees that these lines show is asked for: that of an address, with something left to do if only open
+    /// rows are asked for. Answers are looked up only for that attendee.
     pub(crate) fn shows(
         &self,
         alloc: Global,
@@ -139,7 +139,7 @@ impl<'v, 'a> AnswerSearch<'v, 'a> {
         Ok(is_asked(&attendee, address, is_open))
     }
 
-    /// The first answer of the attendee of a key that counts. It takes no memory.
+    /// The first answer that counts by the attendee with this key. It takes no memory.
     fn deciding(&self, attendee: &str) -> Option<&'a Item>
         ensures { Decides self.now.items.now.items (asked_of self.now.items.now.uid self.now.questions.now attendee.now)
             (option_copied result) }
@@ -154,7 +154,7 @@ impl<'v, 'a> AnswerSearch<'v, 'a> {
         }
     }
 
-    /// The answer to a question of the attendee of a key, where it counts.
+    /// The answer to a question by the attendee with this key, if it counts.
     fn counting(&self, question: &Question<'_>, attendee: &str) -> Option<&'a Item>
         ensures { MatchOption (option_copied result)
             (NoneCounts self.now.items.now.items (to_question self.now.items.now.uid attendee.now question.now))
@@ -167,7 +167,7 @@ impl<'v, 'a> AnswerSearch<'v, 'a> {
     }
 }
 
-/// What a line shows where this answer decides.
+/// What a line shows if this answer decides, or none does; `None` if the answer removes the attendee.
 fn shown_line(
     alloc: Global,
     line: &Property,
@@ -192,7 +192,7 @@ fn shown_line(
     }
 }
 
-/// How the attendee of an answer takes part.
+/// PARTSTAT of an answer: that of its first ATTENDEE line, NEEDS-ACTION without one.
 fn partstat_in(lines: &[Property]) -> PartStat
     ensures { result ≡ partstat_in lines.now }
 {

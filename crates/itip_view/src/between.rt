@@ -19,7 +19,7 @@ pub(crate) struct Between<'v, 'a> {
 }
 
 impl<'v, 'a> Between<'v, 'a> {
-    /// What governs the occurrences of a UID in a window, where there are any.
+    /// What governs the occurrences of a UID in a window; `None` if there are none.
     pub(crate) fn of(
         alloc: Global,
         items: &'v ItemsOfUid<'a>,
@@ -33,7 +33,7 @@ impl<'v, 'a> Between<'v, 'a> {
         let Some(whole) = whole else {
             return Ok(None);
         };
-        // Where nothing occurs no key is needed.
+        // Nothing occurs, so no attendee keys are needed.
         if occurrences.is_empty() {
             return Ok(None);
         }

@@ -1,4 +1,4 @@
-//! Rows, a UID at a time.
+//! Rows, one UID at a time.
 ghost use Rattle.std.specs.Prelude.{◌≤◌, length, map};
 ghost use Rattle.itip_view.specs.AscendingUids.{AreAscendingUids, AreAscendingUids-prop};
 
@@ -15,15 +15,15 @@ use itip_state::State;
 use itip_todo::Uid;
 use std::alloc::Global;
 
-/// The rows of a state in a window that are asked for, the rows of one UID after those of the other: what is left of them.
+/// The rows of a state in a window that are asked for and are still left, one UID after another.
 ///
-/// Only the rows of one UID are held at a time, by whoever asked for them.
+/// With [`next`](RowsByUid::next) only the rows of one UID exist at a time, and the caller holds them.
 #[derive(Debug, Drop)]
 pub struct RowsByUid<'s, 'w> {
     alloc: Global,
     state: &'s State,
     uids: Vec<&'s Uid>,
-    // How many of the UIDs were asked for.
+    // How many of the UIDs are done.
     done: usize,
     window: Window,
     wanted: Wanted<'w>,
@@ -40,7 +40,7 @@ impl<'s, 'w> RowsByUid<'s, 'w> {
     ghost use Rattle.itip_view.specs.ByUid.{AreAsked, AreLeft, AreTooManyLeft, IsCountOf, IsNextOf, IsTextLeft, uids_left, uids_of};
     ghost use Rattle.itip_view.specs.declared.row.Row.{Row};
 
-    /// The rows of all UIDs.
+    /// The rows of all UIDs. Fails only when out of memory.
     pub fn of(
         alloc: Global,
         state: &'s State,
@@ -62,7 +62,8 @@ impl<'s, 'w> RowsByUid<'s, 'w> {
         })
     }
 
-    /// The rows of these UIDs, which stand in any order, perhaps more than once. No other UID is looked at. Of no UID it takes no memory.
+    /// The rows of these UIDs, given in any order and perhaps more than once. No other UID is looked at. Fails only when out of memory;
+    /// without UIDs it takes none.
     pub fn among(
         alloc: Global,
         state: &'s State,
@@ -87,7 +88,7 @@ impl<'s, 'w> RowsByUid<'s, 'w> {
         })
     }
 
-    /// How many rows are left, and where they are too many which to-do has the most of them. No row is made.
+    /// How many rows are left and, if too many, which to-do has the most of them. No row is made. Fails only when out of memory.
     pub fn count(&self) -> Result<RowCount, NoMemory>
         ensures count { IfOk result (IsCountOf self.now) }
     {
@@ -100,9 +101,9 @@ impl<'s, 'w> RowsByUid<'s, 'w> {
         )
     }
 
-    /// The rows of the next UID, in their order, perhaps none; `None` where no UID is left, from then on.
+    /// The rows of the next UID, in order, perhaps none; `None` once no UID is left, and from then on.
     ///
-    /// After an error (out of memory) the same UIDs and rows are left: the UID is the next one still.
+    /// On an error (out of memory) the same UIDs and rows are left: the next call is for the same UID.
     pub fn next(&mut self) -> Result<Option<Vec<Row>>, NoMemory>
         ensures rows { IfOk result (λ rows. IsNextOf self.old self.new (option_map (λ r. r.items) rows)) }
         ensures fewer { IfOk result (λ rows. IfSome rows (λ _. uids_left self.new < uids_left self.old)) }
@@ -117,9 +118,9 @@ impl<'s, 'w> RowsByUid<'s, 'w> {
         Ok(Some(rows))
     }
 
-    /// The text of the rows that are left. One row at a time is held beside it. Where no UID is left, it takes no memory.
+    /// The text of the rows that are left. Besides the text, one row is held at a time. If no UID is left, it takes no memory.
     ///
-    /// Refused where they are more than 100,000 (31), or when out of memory (32).
+    /// Returns [`ViewError::TooManyRows`] (31) if there are more than 100,000, and [`ViewError::NoMemory`] (32) when out of memory.
     pub fn text(&self) -> Result<Vec<u8>, ViewError>
         ensures text { IfOk result (λ text. IsTextLeft self.now text.items) }
         ensures many { IsErrOf result ViewError.TooManyRows → AreTooManyLeft self.now }
@@ -134,7 +135,7 @@ impl<'s, 'w> RowsByUid<'s, 'w> {
         )
     }
 
-    /// The rows that are left, all at once.
+    /// The rows that are left, all at once and without a limit. Fails only when out of memory.
     pub fn to_vec(&self) -> Result<Vec<Row>, NoMemory>
         ensures { IfOk result (λ rows. AreLeft self.now rows.items) }
     {

@@ -29,9 +29,9 @@ pub(crate) fn instance_day(at: &Moment, todo: &Todo) -> Option<i32>
     }
 }
 
-/// DUE of an occurrence: that of the series, moved as far as the occurrence lies from DTSTART.
+/// DUE of an occurrence: that of the series, moved by the distance from DTSTART to the occurrence.
 ///
-/// There is none where DTSTART and the occurrence differ in form or zone, nor where DUE can't be moved so far.
+/// `None` if the series has no DUE, if DTSTART and the occurrence differ in form or zone, or if DUE can't be moved that far.
 pub(crate) fn due_of(
     due: &Option<Moment>,
     start: &Moment,
@@ -48,8 +48,8 @@ pub(crate) fn due_of(
     moved(due, start, at)
 }
 
-/// START of an occurrence that a range item rules: its DTSTART, moved as far as the occurrence lies from the id; without one
-/// the occurrence itself.
+/// START of an occurrence that a range item rules: the item's DTSTART, moved by the distance from its id to the occurrence;
+/// without DTSTART the occurrence itself.
 pub(crate) fn start_from(
     start: &Option<Moment>,
     id: &Moment,
@@ -63,7 +63,7 @@ pub(crate) fn start_from(
     }
 }
 
-/// DUE of an occurrence that a range item rules: that of the item, moved as far as the occurrence lies from the id.
+/// DUE of an occurrence that a range item rules: that of the item, moved by the distance from its id to the occurrence.
 pub(crate) fn due_from(
     due: &Option<Moment>,
     id: &Moment,
@@ -77,8 +77,7 @@ pub(crate) fn due_from(
     }
 }
 
-/// A date of a range item as an occurrence shows it; there is none where its form or zone isn't that of the id, nor where it
-/// can't be moved so far.
+/// A date of a range item as an occurrence shows it; `None` if its form or zone isn't that of the id, or it can't be moved so far.
 fn date_from(date: &Moment, id: &Moment, at: &Moment) -> Result<Option<Moment>, NoMemory>
     ensures { IfOk result (IsDateFrom date.now id.now at.now) }
 {
@@ -88,7 +87,7 @@ fn date_from(date: &Moment, id: &Moment, at: &Moment) -> Result<Option<Moment>, 
     moved(date, id, at)
 }
 
-/// A date, moved as far as one moment lies from another, where it can be.
+/// A date, moved by the distance from one moment to another; `None` if it can't be moved that far.
 fn moved(date: &Moment, from: &Moment, at: &Moment) -> Result<Option<Moment>, NoMemory>
     ensures { IfOk result (λ moved. MatchOption moved
         (CanShift date.now (days_to from.now at.now) (seconds_to from.now at.now) → ⊥) (IsMoved date.now from.now at.now)) }
@@ -101,7 +100,7 @@ fn moved(date: &Moment, from: &Moment, at: &Moment) -> Result<Option<Moment>, No
     }
 }
 
-/// Whether two moments have one form and one zone.
+/// Whether two moments have the same form and the same zone.
 pub fn have_one_form(start: &Moment, at: &Moment) -> bool
     ensures { IsTrue result ↔ HaveOneForm start.now at.now }
 {

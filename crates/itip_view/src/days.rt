@@ -1,4 +1,4 @@
-//! On which days the rows of an item can stand, and which items rows can come from.
+//! The days on which the rows of an item can fall, and which items can govern rows.
 ghost use Rattle.std.specs.Prelude.{◌≡◌};
 ghost use Rattle.itip_view.specs.RowDays.{days_from, has_rows, row_days, whole_days};
 
@@ -8,17 +8,16 @@ use itip_items::{Item, Key};
 use itip_recur::recurs;
 use itip_todo::Todo;
 
-/// On which days the rows of an item can stand.
+/// The days on which the rows of an item can fall.
 #[derive(Clone, Copy, Debug, PartialEq, Eq)]
 pub enum RowDays {
-    /// On this day alone, counted from 1970-01-01.
+    /// Only this day, counted from 1970-01-01.
     One(i32),
-    /// On any day: the rows of a to-do that recurs, and a row that has no day.
+    /// Any day: for the rows of a to-do that recurs, and for a row that has no day.
     Any,
 }
 
-/// Whether a row can be governed by an item: a request or an addition of a to-do as a whole, of an instance, or of an instance
-/// and all after it.
+/// Whether an item can govern a row: a REQUEST or an ADD of a to-do as a whole, of an instance, or of an instance and all after it.
 pub fn has_rows(item: &Item) -> bool
     ensures { result ≡ has_rows item.now }
 {
@@ -28,8 +27,8 @@ pub fn has_rows(item: &Item) -> bool
     }
 }
 
-/// On which days the rows can stand for which an item of a to-do as a whole or of an instance is needed; `None` where no row
-/// needs the item. The rows of an instance and all after it stand where the to-do as a whole has its rows.
+/// The days on which the rows of a live series or instance item can fall; `None` for any other item. The rows of an instance and
+/// all after it fall on the days of the to-do as a whole.
 pub fn row_days(item: &Item) -> Option<RowDays>
     ensures { result ≡ row_days item.now }
 {
@@ -43,14 +42,14 @@ pub fn row_days(item: &Item) -> Option<RowDays>
     }
 }
 
-/// On which days the rows of a to-do as a whole can stand.
+/// The days on which the rows of a to-do as a whole can fall.
 fn whole_days(todo: &Todo) -> RowDays
     ensures { result ≡ whole_days todo.now }
 {
     days_from(recurs(todo), day_of(todo))
 }
 
-/// The day of a to-do that doesn't recur, where it has one.
+/// The one day of a to-do that doesn't recur and has a day, else any day.
 fn days_from(recurs: bool, day: Option<i32>) -> RowDays
     ensures { result ≡ days_from recurs day }
 {

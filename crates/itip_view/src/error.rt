@@ -5,7 +5,7 @@ ghost use Rattle.itip_view.specs.declared.error.ViewError.TheVariants.{NoMemory}
 use std::alloc::{AllocError, AllocFailed};
 use thiserror::Error;
 
-/// The days are no window: the end is not after the start, or is more than 3,660 days after it (30).
+/// The days don't form a window: the end is not after the start, or is more than 3,660 days after it (refused with 30).
 #[derive(Clone, Copy, PartialEq, Eq, Debug, Drop, Error)]
 #[error("the window is bad")]
 pub struct BadWindow;
@@ -13,10 +13,10 @@ pub struct BadWindow;
 /// Why there are no rows.
 #[derive(Clone, Copy, PartialEq, Eq, Debug, Drop, Error)]
 pub enum ViewError {
-    /// More than 100,000 rows stand in the window (31).
+    /// The list would have more than 100,000 rows (refused with 31).
     #[error("there are too many rows")]
     TooManyRows,
-    /// Memory was refused (32).
+    /// An allocation failed (refused with 32).
     #[error("no memory to list")]
     NoMemory,
 }

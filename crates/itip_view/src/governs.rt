@@ -10,7 +10,8 @@ use itip_items::Item;
 use itip_moment::Moment;
 use itip_state::ItemsOfUid;
 
-/// The item that governs a to-do as a whole, or an instance of it; `ranges` are those of the same items. It takes no memory.
+/// The item that governs a to-do as a whole (`id` is `None`), or an instance of it; `None` if nothing does. `ranges` must be those of
+/// the same items. It takes no memory.
 pub fn governing<'a>(
     items: &ItemsOfUid<'a>,
     ranges: &Ranges<'_, 'a>,

@@ -31,8 +31,8 @@ pub struct RowInQuestion<'a> {
     pub attendees: ListOf<ShownAttendee>,
 }
 
-/// What answers to a to-do as a whole and to its instances are about. Built once for many questions; a question about an instance
-/// that no item names costs the occurrences of its day.
+/// What answers to a to-do as a whole and to its instances are about. Built once for many questions; one about an instance at which
+/// no item stands lists the occurrences of its day.
 #[derive(Drop)]
 pub struct InQuestion<'v, 'a> {
     alloc: Global,
@@ -56,7 +56,7 @@ impl<'v, 'a> Model for InQuestion<'v, 'a> {
 }
 
 impl<'v, 'a> InQuestion<'v, 'a> {
-    /// What is in question among the kept items of a UID.
+    /// What is in question among the kept items of a UID. Fails only when out of memory.
     pub fn of(alloc: Global, items: &'v ItemsOfUid<'a>) -> Result<InQuestion<'v, 'a>, NoMemory>
         ensures { IfOk result (λ question. question ≡ items.now) }
     {
@@ -70,7 +70,7 @@ impl<'v, 'a> InQuestion<'v, 'a> {
         })
     }
 
-    /// The items.
+    /// The kept items of the UID.
     pub fn items(&self) -> &'v ItemsOfUid<'a>
         ensures { result.now ≡ self.now }
     {
@@ -84,8 +84,8 @@ impl<'v, 'a> InQuestion<'v, 'a> {
         &self.ranges
     }
 
-    /// The item that governs the row in question: of the to-do as a whole the live series item, of an instance what governs the row
-    /// with this identifier; `None` where there is no such row.
+    /// The item that governs the row in question: for the to-do as a whole the live series item, for an instance the item that governs
+    /// the row with this identifier; `None` if there is no such row. Fails only when out of memory.
     pub fn governing(&self, id: Option<&Moment>) -> Result<Option<&'a Item>, NoMemory>
         ensures { IfOk result (λ found. MatchOption (option_copied found)
             (NoneInQuestion self.now.items self.now.uid (option_copied id.entry))
@@ -112,8 +112,8 @@ impl<'v, 'a> InQuestion<'v, 'a> {
         Ok(governing_between(self.items, &self.ranges, at))
     }
 
-    /// The row in question, with the attendees that it shows: without an identifier those that answers to the to-do as a whole
-    /// decide on; `None` where there is no such row.
+    /// The row in question, with the attendees that it shows; without an identifier only answers to the to-do as a whole decide.
+    /// `None` if there is no such row. Fails only when out of memory.
     pub fn row(&self, id: Option<&Moment>) -> Result<Option<RowInQuestion<'a>>, NoMemory>
         ensures { IfOk result (IsRowFound self.now.items self.now.uid (option_copied id.entry)) }
     {
@@ -123,7 +123,7 @@ impl<'v, 'a> InQuestion<'v, 'a> {
         }
     }
 
-    /// The to-do as a whole.
+    /// The row of the to-do as a whole, if it is live.
     fn whole_row(&self) -> Result<Option<RowInQuestion<'a>>, NoMemory>
         ensures { IfOk result (IsRowFound self.now.items self.now.uid None) }
     {
@@ -146,7 +146,7 @@ impl<'v, 'a> InQuestion<'v, 'a> {
         }
     }
 
-    /// The row of an instance, where it is live.
+    /// The row of an instance, if it is live.
     fn instance_row(
         &self,
         item: &'a Item,
@@ -181,7 +181,7 @@ impl<'v, 'a> InQuestion<'v, 'a> {
         }
     }
 
-    /// The row of an occurrence that a range item rules, where that is live.
+    /// The row of an occurrence that a range item rules, if that item is live.
     fn range_row(
         &self,
         series: &Item,
@@ -221,7 +221,7 @@ impl<'v, 'a> InQuestion<'v, 'a> {
     }
 }
 
-/// The row that an item governs; of each attendee these are asked, one after the other.
+/// The row that an item governs; these questions are asked for each attendee in turn.
 fn row_of<'a>(
     alloc: Global,
     items: &ItemsOfUid<'a>,

@@ -16,7 +16,7 @@ pub(crate) struct AttendeeLine<'a> {
     pub(crate) ghost of_line: { key ≡ attendee_key line.now.value },
 }
 
-/// An item that can govern rows, and its ATTENDEE lines with their keys, which are made once for all of these rows.
+/// An item that can govern rows, and its ATTENDEE lines with their keys, made once for all of these rows.
 #[derive(Drop)]
 pub(crate) struct KeyedItem<'a> {
     pub(crate) item: &'a Item,
@@ -34,7 +34,7 @@ impl<'a> KeyedItem<'a> {
     }
 }
 
-/// ATTENDEE lines with their keys, in their order.
+/// ATTENDEE lines with their keys, in order.
 fn with_keys(alloc: Global, lines: &[Property]) -> Result<Vec<AttendeeLine<'_>>, NoMemory>
     ensures { IfOk result (λ keyed. map (λ line. line.line.now) keyed.items ≡ lines.now) }
 {

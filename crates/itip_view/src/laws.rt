@@ -1,4 +1,4 @@
-//! The laws of views, of every finite set of items. They hold with no code: each function is empty.
+//! The laws of views, for every finite set of items. They are about the definitions alone: each function is empty.
 ghost use Rattle.std.specs.Prelude.{List, ℕ, Option, Some, None, ◌↔◌, ◌≡◌, ◌≤◌, ◌<◌, length};
 ghost use Rattle.std.specs.List.{Contains};
 ghost use Rattle.itip_items.specs.declared.item.Item.{Item};
@@ -24,7 +24,7 @@ ghost use Rattle.itip_view.specs.declared.row.ShownAttendee.{ShownAttendee};
 ghost use Rattle.itip_view.specs.declared.wanted.Wanted.{Wanted};
 ghost use Rattle.itip_view.specs.declared.window.Window.{Window};
 
-/// What stands and what governs needs only what is kept (our own rules).
+/// What stands and what governs depends only on what is kept (our own rules).
 pub fn standing_of_kept()
     ensures stands { (uid : List ℕ) (id : Moment) (item : Item) → NeedsOnlyKept (λ heard. Stands heard uid id item) }
     ensures stands_from { (uid : List ℕ) (id : Moment) (item : Item) → NeedsOnlyKept (λ heard. StandsFrom heard uid id item) }
@@ -33,8 +33,8 @@ pub fn standing_of_kept()
     ensures governs { (uid : List ℕ) (id : Option Moment) (item : Item) → NeedsOnlyKept (λ heard. Governs heard uid id item) }
 {}
 
-/// Which answers count needs only what is kept: an answer to an instance never dies, and one to the to-do as a whole that is no
-/// earlier than the live series isn't dead (our own rules).
+/// Which answers count depends only on what is kept: an answer to an instance never dies, and one to the to-do as a whole that is
+/// no earlier than the live series isn't dead (our own rules).
 pub fn answers_of_kept()
     ensures to_instance { (uid : List ℕ) (id : Moment) (attendee : List ℕ) (since : ℕ) (answer : Item)
         → NeedsOnlyKept (λ heard. Counts heard (record { key = Answer uid (Some id) attendee; since = since }) answer) }
@@ -59,9 +59,9 @@ pub fn view_of_kept()
         → FollowsFromKept (λ heard. IsMostOf (Wants wanted) heard window most) }
 {}
 
-/// What was heard has at most one list in a window, and none where it has too many rows for one; and so it is of the rows that are
-/// asked for, of which one to-do at most has the most. A UID and an identifier have one row, and the order tells all rows apart (our own
-/// rules).
+/// What was heard has at most one list in a window, and none if it has too many rows for one. The same holds for the rows that are
+/// asked for, and at most one to-do has the most of these. A UID and an identifier have at most one row, and the order tells all
+/// rows apart (our own rules).
 pub fn one_list()
     ensures row { (heard : List Item) (window : Window) (row other : Row) → IsRow heard window row → IsRow heard window other
         → row.uid ≡ other.uid → row.id ≡ other.id → row ≡ other }
@@ -86,15 +86,15 @@ pub fn one_list()
         → IsMostOf (Wants wanted) heard window most → IsMostOf (Wants wanted) heard window other → most ≡ other }
 {}
 
-/// One item at most governs a to-do as a whole, and one an instance; a row shows the one that governs what it names (our own rules).
+/// At most one item governs a to-do as a whole, or an instance; a row shows the one that governs what it names (our own rules).
 pub fn rows_are_governed()
     ensures row { (heard : List Item) (window : Window) (row : Row) → IsRow heard window row → ShowsGoverning heard row }
     ensures one { (heard : List Item) (uid : List ℕ) (id : Option Moment) (item other : Item) → Governs heard uid id item
         → Governs heard uid id other → item ≡ other }
 {}
 
-/// A row of any window is the row in question with its identifier. The item that governs a row in question governs what it names;
-/// one item at most does, and the row shows one list of attendees (our own rules).
+/// A row of any window is the row in question for its identifier. The item that governs a row in question governs what the row
+/// names; at most one item does, and the row shows one list of attendees (our own rules).
 pub fn rows_are_in_question()
     ensures row { (heard : List Item) (window : Window) (row : Row) → IsRow heard window row → IsRowInQuestion heard row }
     ensures shows { (heard : List Item) (uid : List ℕ) (id : Option Moment) (item : Item) (shown : List ShownAttendee)
@@ -107,7 +107,7 @@ pub fn rows_are_in_question()
         → ShowsInQuestion heard uid id item shown → ShowsInQuestion heard uid id other others → shown ≡ others }
 {}
 
-/// What is in question, and what it shows, needs only what is kept (our own rules).
+/// What is in question, and what it shows, depends only on what is kept (our own rules).
 pub fn question_of_kept()
     ensures is_in { (uid : List ℕ) (id : Option Moment) (item : Item) → NeedsOnlyKept (λ heard. IsInQuestion heard uid id item) }
     ensures none { (uid : List ℕ) (id : Option Moment) → NeedsOnlyKept (λ heard. NoneInQuestion heard uid id) }
@@ -115,15 +115,15 @@ pub fn question_of_kept()
         → NeedsOnlyKept (λ heard. ShowsInQuestion heard uid id item shown) }
 {}
 
-/// A row needs an item of its UID whose rows can stand in the window; and an item of its UID that can have rows names each
-/// attendee that it shows (our own rules).
+/// A row needs an item of its UID whose rows can fall in the window, and each attendee that it shows is named by an item of its UID
+/// that can have rows (our own rules).
 pub fn rows_need_items()
     ensures days { (heard : List Item) (window : Window) (row : Row) → IsRow heard window row → HasRowsIn heard window row.uid }
     ensures names { (heard : List Item) (window : Window) (address : List ℕ) (row : Row) → IsRow heard window row → Shows address row
         → NamesIn heard (attendee_key address) row.uid }
 {}
 
-/// The rows of some UIDs need only the items of these UIDs, and of other UIDs these give no row (our own rule).
+/// The rows of some UIDs depend only on the items of these UIDs, and these items have no row of another UID (our own rule).
 pub fn rows_of_part()
     ensures row { (part whole : List Item) (uids : List (List ℕ)) → ArePartOf part whole uids → (window : Window) (row : Row)
         → Contains uids row.uid → IsRow part window row ↔ IsRow whole window row }
@@ -131,9 +131,9 @@ pub fn rows_of_part()
         → IsRow part window row → Contains uids row.uid }
 {}
 
-/// A list is cut by UID into blocks of rows. Where no UID is in two parts of a set, the blocks of the parts' lists, sorted by UID,
-/// are the list of the whole. The whole has too many rows for a list exactly where those of the parts, added up, are too many; so
-/// it has where one part has (our own rules).
+/// A list is cut by UID into blocks of rows. If no UID is in two parts of a set, the blocks of the parts' lists, sorted by UID, are
+/// the list of the whole. The whole has too many rows for a list exactly when the rows of the parts add up to too many, in
+/// particular if one part has too many (our own rules).
 pub fn lists_of_parts()
     ensures blocks { (heard : List Item) (window : Window) (wanted : Wanted) (rows : List Row)
         → AreRowsWhere (Wants wanted) heard window rows

@@ -1,4 +1,4 @@
-//! The task list of a state: its rows in a window of days, and their text (our own rules of what is shown).
+//! The task list of a state: its rows in a window of days, and their text. What is shown follows our own rules.
 #![tactic(auto)]
 
 mod answers;

@@ -13,8 +13,8 @@ use itip_state::State;
 use itip_todo::Uid;
 use std::alloc::Global;
 
-/// The text of the rows of these UIDs in a window that are asked for, at most 100,000. One row at a time is held beside it. Of no UID it
-/// takes no memory.
+/// The text of the rows of these UIDs in a window that are asked for, at most 100,000. Besides the text, one row is held at a time.
+/// Without UIDs it takes no memory.
 pub(crate) fn text_by_uid(
     alloc: Global,
     state: &State,

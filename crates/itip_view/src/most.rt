@@ -13,20 +13,20 @@ use itip_state::State;
 use itip_todo::Uid;
 use std::alloc::Global;
 
-/// The to-do with the most rows, of several the one whose UID is the least by octets.
+/// The to-do with the most rows; of several, the one with the least UID by bytes.
 #[derive(Debug, Drop)]
 pub struct MostRows {
     pub uid: Uid,
-    /// How many rows it has: one at least.
+    /// The number of its rows, at least 1.
     pub rows: usize,
 }
 
 /// How many rows there are.
 #[derive(Debug, Drop)]
 pub enum RowCount {
-    /// So many, at most 100,000.
+    /// This many, at most 100,000.
     Few(usize),
-    /// More than 100,000; and the to-do with the most of them.
+    /// More than 100,000, with the to-do that has the most of them.
     TooMany(MostRows),
 }
 

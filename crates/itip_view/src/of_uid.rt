@@ -34,8 +34,8 @@ use itip_state::ItemsOfUid;
 use itip_todo::Todo;
 use std::alloc::Global;
 
-/// The view of one UID: its kept items, its to-do as a whole, what governs the occurrences in the window, the window that is asked
-/// for, and the moments at which rows may stand in it, ascending.
+/// The view of one UID: its kept items, its to-do as a whole, what governs the occurrences in the window, the window itself, and the
+/// moments at which there may be rows, ascending.
 #[derive(Drop)]
 struct UidView<'v, 'a> {
     alloc: Global,
@@ -46,7 +46,7 @@ struct UidView<'v, 'a> {
     places: Vec<Moment>,
 }
 
-/// The rows of a UID in a window, in their order.
+/// The rows of a UID in a window, in order.
 pub(crate) fn rows_of_uid(
     alloc: Global,
     items: &ItemsOfUid<'_>,
@@ -58,8 +58,8 @@ pub(crate) fn rows_of_uid(
     view.rows()
 }
 
-/// Appends the text of those of the rows of a UID in a window that are asked for, each as it is made, and gives how many they are. After
-/// an error (out of memory) a part of them may be there.
+/// Appends the text of the rows of a UID in a window that are asked for, each as it is made, and returns their number. On an error
+/// (out of memory) part of it may have been appended.
 pub(crate) fn put_rows_of_uid(
     alloc: Global,
     items: &ItemsOfUid<'_>,
@@ -73,7 +73,7 @@ pub(crate) fn put_rows_of_uid(
     view.put(wanted, out)
 }
 
-/// How many of the rows of a UID in a window are asked for. None of them is made.
+/// How many of the rows of a UID in a window are asked for. No row is made.
 pub(crate) fn count_of_uid(
     alloc: Global,
     items: &ItemsOfUid<'_>,
@@ -86,7 +86,7 @@ pub(crate) fn count_of_uid(
     view.count(wanted)
 }
 
-/// The moments at which rows may stand, ascending: those at which instance items stand, and the occurrences in a window.
+/// The moments at which there may be rows, ascending: those at which instance items stand, and the given occurrences.
 fn places_of(items: &ItemsOfUid<'_>, occurrences: Vec<Moment>) -> Result<Vec<Moment>, NoMemory>
     ensures { IfOk result (λ places. (window : Window) → AreOccurrencesOf items.now.items window items.now.uid occurrences.items
         → ArePlaces items.now.items window items.now.uid places.items) }
@@ -126,7 +126,7 @@ impl<'v, 'a> UidView<'v, 'a> {
         })
     }
 
-    /// The rows, in their order.
+    /// The rows, in order.
     fn rows(&self) -> Result<Vec<Row>, NoMemory>
         requires { HasAll self.now }
         ensures { IfOk result (λ rows. HasItsRows self.now rows.items) }
@@ -141,7 +141,7 @@ impl<'v, 'a> UidView<'v, 'a> {
         Ok(rows)
     }
 
-    /// Appends the text of those of the rows that are asked for, and gives how many they are.
+    /// Appends the text of the rows that are asked for, and returns their number.
     fn put(&self, wanted: &Wanted<'_>, out: &mut Vec<u8>) -> Result<usize, NoMemory>
         requires { HasAll self.now }
         ensures { IfOk result (ArePut wanted.now self.now.items.now self.now.window out.old.items out.new.items) }
@@ -155,7 +155,7 @@ impl<'v, 'a> UidView<'v, 'a> {
         Ok(number)
     }
 
-    /// Appends the text of the row of a place, where there is one that is asked for.
+    /// Appends the text of the row of a place if there is one and it is asked for; returns whether it did.
     fn put_place(
         &self,
         place: &Option<RowPlace<'_>>,
@@ -184,7 +184,7 @@ impl<'v, 'a> UidView<'v, 'a> {
         Ok(number)
     }
 
-    /// Where the to-do as a whole has a row.
+    /// The place of the row of the to-do as a whole, if it has one.
     fn whole_place(&self) -> Option<RowPlace<'_>>
         requires { HasWhole self.now }
         ensures { IsPlaceAt self.now.items.now self.now.window None result }
@@ -202,7 +202,7 @@ impl<'v, 'a> UidView<'v, 'a> {
         }
     }
 
-    /// Where a to-do that doesn't recur has its row.
+    /// The place of the row of a to-do that doesn't recur, if it has one in the window.
     fn single_place<'p>(&'p self, series: &'p Item) -> Option<RowPlace<'p>>
         requires live { HasLiveSeries self.now series.now }
         requires single { IsShape series.now.todo Shape.Single }
@@ -230,7 +230,7 @@ impl<'v, 'a> UidView<'v, 'a> {
         }
     }
 
-    /// Whether a row stands at a moment: that of the item that stands there, or of the occurrence.
+    /// The place of the row at a moment, if there is one: of the item that stands there, or of the occurrence.
     fn place_at<'p>(&'p self, at: &'p Moment) -> Option<RowPlace<'p>>
         requires whole { HasWhole self.now }
         requires between { HasBetween self.now }
@@ -243,7 +243,7 @@ impl<'v, 'a> UidView<'v, 'a> {
         }
     }
 
-    /// The row of an instance, where it is live and its day is in the window.
+    /// The place of the row of an instance, if it is live and its day is in the window.
     fn instance_place<'p>(&'p self, item: &'p Item, at: &'p Moment) -> Option<RowPlace<'p>>
         requires { HasStanding self.now at.now item.now }
         ensures { IsPlaceAt self.now.items.now self.now.window (Some at.now) result }
@@ -260,7 +260,7 @@ impl<'v, 'a> UidView<'v, 'a> {
         })
     }
 
-    /// The row of an occurrence at which no instance item stands.
+    /// The place of the row of an occurrence at which no instance item stands, if it has one.
     fn place_between<'p>(&'p self, at: &'p Moment) -> Option<RowPlace<'p>>
         requires whole { HasWhole self.now }
         requires between { HasBetween self.now }
@@ -277,7 +277,7 @@ impl<'v, 'a> UidView<'v, 'a> {
         }
     }
 
-    /// The row of an occurrence that a range item rules, where that is live.
+    /// The place of the row of an occurrence that a range item rules, if that item is live.
     fn range_place<'p>(
         &'p self,
         series: &'p Item,
@@ -302,7 +302,7 @@ impl<'v, 'a> UidView<'v, 'a> {
         })
     }
 
-    /// The row of an occurrence that no range item rules.
+    /// The place of the row of an occurrence that no range item rules.
     fn occurrence_place<'p>(
         &'p self,
         governing: &'p KeyedItem<'p>,
@@ -331,7 +331,7 @@ impl<'v, 'a> UidView<'v, 'a> {
         })
     }
 
-    /// The row of a place, where there is one.
+    /// The row of a place, if there is one.
     fn made(&self, place: &Option<RowPlace<'_>>) -> Result<Option<Row>, NoMemory>
         ensures { IfOk result (IsMade self.now.items.now place.now) }
     {
@@ -354,7 +354,7 @@ impl<'v, 'a> UidView<'v, 'a> {
         }
     }
 
-    /// The row of a place, with the ATTENDEE lines of the item that governs it and their keys.
+    /// The row of a place; `lines` are the ATTENDEE lines of the item that governs it, with their keys.
     fn row_with(&self, place: &RowPlace<'_>, lines: &[AttendeeLine<'_>]) -> Result<Row, NoMemory>
         requires { map (λ line. line.line.now) lines.now ≡ (governing_item place.now.governing).todo.attendees }
         ensures { IfOk result (IsShownAt self.now.items.now place.now) }
@@ -387,7 +387,7 @@ impl<'v, 'a> UidView<'v, 'a> {
         })
     }
 
-    /// Whether there is a row at a place that is asked for.
+    /// Whether a place has a row that is asked for.
     fn is_wanted(&self, place: &Option<RowPlace<'_>>, wanted: &Wanted<'_>) -> Result<bool, NoMemory>
         ensures { IfOk result (IsWanted wanted.now self.now.items.now place.now) }
     {
@@ -401,8 +401,8 @@ impl<'v, 'a> UidView<'v, 'a> {
         self.shows_named(place, wanted)
     }
 
-    /// Whether the row of a place shows the attendee who is named, where one is; where only open rows are asked for, with
-    /// something left to do.
+    /// Whether the row of a place shows the attendee who is named, with something left to do if only open rows are asked for; true if
+    /// none is named.
     fn shows_named(&self, place: &RowPlace<'_>, wanted: &Wanted<'_>) -> Result<bool, NoMemory>
         ensures { IfOk result (λ shows. (shown : List ShownAttendee)
             → AreShown self.now.items.now.items (asked_by self.now.items.now.uid
@@ -423,7 +423,7 @@ impl<'v, 'a> UidView<'v, 'a> {
     }
 }
 
-/// Adds a row where there is one.
+/// Adds the row, if there is one.
 fn push_some(rows: &mut Vec<Row>, row: Option<Row>) -> Result<(), NoMemory>
     ensures { OnOk result (rows.new.items ≡ rows.old.items ++ option_to_list row) }
 {
@@ -433,7 +433,7 @@ fn push_some(rows: &mut Vec<Row>, row: Option<Row>) -> Result<(), NoMemory>
     Ok(())
 }
 
-/// Appends the text of a row where there is one that is asked for; gives whether it did.
+/// Appends the text of a row if there is one and it is asked for; returns whether it did.
 fn put_if_wanted(
     row: &Option<Row>,
     wanted: &Wanted<'_>,

@@ -1,10 +1,10 @@
-//! How far the attendees of a row are.
+//! The progress of a row: how far its attendees are.
 ghost use Rattle.std.specs.Prelude.{◌≡◌};
 ghost use Rattle.itip_view.specs.Progress.{progress_of};
 
 use crate::row::ShownAttendee;
 
-/// The mean of the percentages that are shown, rounded down; `None` where none is.
+/// The mean of the percentages that are shown, rounded down; `None` if there are none.
 pub(crate) fn progress_of(shown: &[ShownAttendee]) -> Option<u8>
     ensures { result ≡ progress_of shown.now }
 {

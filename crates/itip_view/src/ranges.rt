@@ -17,16 +17,17 @@ use std::alloc::Global;
 use std::cmp::Ordering;
 use std::marker::Model;
 
-/// A range item, and the id from which on it is.
+/// A range item, and the id from which it starts.
 #[derive(Clone, Copy, Debug, Drop)]
 struct RangeFrom<'a> {
     id: &'a Moment,
     item: &'a Item,
 }
 
-/// The range items of a UID that stand, by the form, the zone and the moment of their ids, each with the keys of its attendees.
+/// The range items of a UID that stand, sorted by the form, the zone and the moment of their ids, each with the keys of its
+/// attendees.
 ///
-/// They are the ones of its kept items, by the invariant of the type.
+/// By the invariant of the type they are exactly those among the kept items of the UID.
 #[derive(Drop)]
 pub struct Ranges<'v, 'a> {
     items: &'v ItemsOfUid<'a>,
@@ -50,7 +51,7 @@ impl<'v, 'a> Model for Ranges<'v, 'a> {
 }
 
 impl<'v, 'a> Ranges<'v, 'a> {
-    /// The range items that stand among the kept items of a UID.
+    /// The range items that stand among the kept items of a UID. Fails only when out of memory.
     pub fn of(alloc: Global, items: &'v ItemsOfUid<'a>) -> Result<Ranges<'v, 'a>, NoMemory>
         ensures { IfOk result (λ ranges. ranges ≡ items.now) }
     {
@@ -64,8 +65,8 @@ impl<'v, 'a> Ranges<'v, 'a> {
         })
     }
 
-    /// The range item that rules a moment: of those with an id of its form and zone that is not after it the one with the greatest
-    /// id; `None` where there is none. It is found by a binary search, and takes no memory.
+    /// The range item that rules a moment: of those whose id has its form and zone and is not after it, the one with the greatest id;
+    /// `None` if there is none. It is found by binary search, which takes no memory.
     pub(crate) fn ruling(&self, at: &Moment) -> Option<&KeyedItem<'a>>
         ensures { MatchOption result (NoneRules self.now.items self.now.uid at.now)
             (λ range. (id : Moment) × Rules self.now.items self.now.uid at.now id range.now.item.now) }
@@ -77,7 +78,7 @@ impl<'v, 'a> Ranges<'v, 'a> {
     }
 }
 
-/// Range items with the keys of their attendees, in their order.
+/// Range items with the keys of their attendees, in order.
 fn governing_each<'a>(
     alloc: Global,
     standing: &[RangeFrom<'a>],
@@ -91,7 +92,7 @@ fn governing_each<'a>(
     Ok(governing)
 }
 
-/// The place of the range item that rules a moment among these; `None` where none rules it.
+/// The index, among these, of the range item that rules a moment; `None` if none rules it.
 fn ruling_place(standing: &[RangeFrom<'_>], at: &Moment) -> Option<usize>
     ensures inside { MatchOption result (Unit {0}) (λ place. place < length standing.now) }
     ensures rules { (part : UidPart) → AreRangesInOrder part standing.now
@@ -109,7 +110,7 @@ fn ruling_place(standing: &[RangeFrom<'_>], at: &Moment) -> Option<usize>
     }
 }
 
-/// The range items that stand among the items of a UID, in their order there.
+/// The range items that stand among the items of a UID, in the order of the items.
 fn standing_ranges<'a>(
     alloc: Global,
     items: &ItemsOfUid<'a>,
@@ -128,7 +129,7 @@ fn standing_ranges<'a>(
     Ok(found)
 }
 
-/// Range items by their ids.
+/// Range items sorted by their ids.
 fn by_id<'a>(found: Vec<RangeFrom<'a>>) -> Result<Vec<RangeFrom<'a>>, NoMemory>
     ensures { IfOk result (λ sorted. (part : UidPart) → AreRanges part found.entry.items → AreRangesInOrder part sorted.items) }
 {
@@ -137,7 +138,7 @@ fn by_id<'a>(found: Vec<RangeFrom<'a>>) -> Result<Vec<RangeFrom<'a>>, NoMemory>
     Ok(found)
 }
 
-/// By form and zone, then in the order of moments.
+/// Compares by form and zone, then in the order of moments.
 fn compare(id: &Moment, other: &Moment) -> Ordering
     ensures { result ≡ range_cmp id.now other.now }
 {
@@ -147,7 +148,7 @@ fn compare(id: &Moment, other: &Moment) -> Ordering
         .then(id.cmp(other))
 }
 
-/// The name of the zone, empty where the moment is in none.
+/// The name of the zone, empty if the moment is in none.
 fn zone(moment: &Moment) -> &str
     ensures { result.now ≡ moment_zone moment.now }
 {

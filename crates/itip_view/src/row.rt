@@ -3,7 +3,7 @@ use itip_lines::{ListOf, Text};
 use itip_moment::Moment;
 use itip_todo::{PartStat, Status, Uid};
 
-/// What names a row beside its UID.
+/// What identifies a row, besides its UID.
 #[derive(Debug, Drop)]
 pub enum RowId {
     /// The one row of a to-do that doesn't recur.
@@ -14,23 +14,23 @@ pub enum RowId {
     Opaque,
 }
 
-/// An attendee as a row shows him.
+/// An attendee as a row shows them.
 #[derive(Debug, Drop)]
 pub struct ShownAttendee {
-    /// The calendar address as the line has it.
+    /// The calendar address as the ATTENDEE line has it.
     pub address: Text,
     pub partstat: PartStat,
-    /// PERCENT-COMPLETE of the answer that decides.
+    /// PERCENT-COMPLETE of the answer that decides, if any.
     pub percent: Option<u8>,
 }
 
-/// A row of the task list. SEQUENCE, STATUS, PERCENT-COMPLETE, PRIORITY and SUMMARY are those of the item that governs it, and
-/// so are START and DUE but on the row of an occurrence, where they are moved to it.
+/// A row of the task list. SEQUENCE, STATUS, PERCENT-COMPLETE, PRIORITY and SUMMARY are those of the item that governs it. So are
+/// START and DUE, except on the row of an occurrence, where they are moved to it.
 #[derive(Debug, Drop)]
 pub struct Row {
     pub uid: Uid,
     pub id: RowId,
-    /// SEQUENCE as it stands.
+    /// The item's own SEQUENCE, not the effective one.
     pub seq: u32,
     pub status: Option<Status>,
     pub percent: Option<u8>,
@@ -40,6 +40,6 @@ pub struct Row {
     /// The value of SUMMARY.
     pub summary: Option<Text>,
     pub attendees: ListOf<ShownAttendee>,
-    /// The mean of the percentages that the attendees show, rounded down.
+    /// The mean of the percentages that the attendees show, rounded down; `None` if they show none.
     pub progress: Option<u8>,
 }

@@ -1,4 +1,4 @@
-//! Forms in which rows are written.
+//! The forms in which rows are written.
 ghost use Rattle.std.specs.Prelude.{◌≡◌, ◌++◌, ℕ, List, OnOk};
 ghost use Rattle.itip_view.specs.ListText.{row_text};
 ghost use Rattle.itip_view.specs.declared.row.Row.{Row};
@@ -7,17 +7,17 @@ use crate::row::Row;
 use crate::row_text::write_row;
 use std::alloc::AllocError;
 
-/// A form in which rows are written, each by itself.
+/// A form in which rows are written, each on its own.
 pub trait RowForm {
-    /// The octets of a row.
+    /// The bytes of a row.
     ghost octets: { Self → Row → List ℕ };
 
-    /// Appends the octets of a row. On an error (out of memory) a part of them may be there.
+    /// Appends the bytes of a row. On an error (out of memory) part of them may have been appended.
     fn put(&self, row: &Row, out: &mut Vec<u8>) -> Result<(), AllocError>
         ensures { OnOk result (out.new.items ≡ out.old.items ++ octets self.now row.now) };
 }
 
-/// The text of the list.
+/// The text form of the list.
 #[derive(Clone, Copy, Debug)]
 pub struct PlainRows;
 

@@ -1,4 +1,4 @@
-//! The rows of several UIDs, one UID after the other.
+//! The rows of several UIDs, one UID after another.
 ghost use Rattle.std.specs.Prelude.{◌≡◌, ◌↔◌, ℕ, List, [], IfOk, IsOk, map};
 ghost use Rattle.std.specs.List.{Contains};
 ghost use Rattle.itip_state.specs.Kept.{AscendTexts};
@@ -16,7 +16,7 @@ use std::alloc::Global;
 
 pub(crate) const ROW_LIMIT: usize = 100_000;
 
-/// The UIDs given, by octets, each once. A refusal (out of memory) drops them. No UID takes no memory.
+/// The given UIDs, sorted by bytes, each once. Without UIDs it takes no memory. On an error (out of memory) the list is dropped.
 pub fn sorted_uids<'a>(uids: Vec<&'a Uid>) -> Result<Vec<&'a Uid>, NoMemory>
     ensures ascend { IfOk result (λ sorted. AscendTexts (map (λ uid. uid.now) sorted.items)) }
     ensures same { IfOk result (λ sorted. (uid : List ℕ)
@@ -29,7 +29,7 @@ pub fn sorted_uids<'a>(uids: Vec<&'a Uid>) -> Result<Vec<&'a Uid>, NoMemory>
     Ok(uids)
 }
 
-/// The rows of these UIDs in a window that are asked for, in their order.
+/// The rows of these UIDs in a window that are asked for, in order.
 pub(crate) fn rows_by_uid(
     alloc: Global,
     state: &State,

@@ -1,4 +1,4 @@
-//! Rows that are not made yet: what governs a row, what names it, and which dates it shows.
+//! Rows before they are made: what governs a row, what identifies it, and which dates it shows.
 ghost use Rattle.std.specs.Prelude.{◌≡◌, IfOk};
 ghost use Rattle.itip_view.specs.Places.{HasDates, governing_item, id_of, questions_of};
 
@@ -10,7 +10,7 @@ use crate::row::RowId;
 use itip_items::Item;
 use itip_moment::Moment;
 
-/// The item that governs a row, with the keys of its attendees where these are made already.
+/// The item that governs a row, with the keys of its attendees if they are already made.
 #[derive(Clone, Copy, Drop)]
 pub(crate) enum Governing<'p> {
     Plain(&'p Item),
@@ -31,7 +31,7 @@ pub(crate) enum RowKind<'p> {
         at: &'p Moment,
         start: &'p Moment,
     },
-    /// Of an occurrence of a series that a range item from an id on rules.
+    /// Of an occurrence of `series` that is ruled by a range item from `id` on.
     Ranged {
         at: &'p Moment,
         id: &'p Moment,
@@ -39,7 +39,7 @@ pub(crate) enum RowKind<'p> {
     },
 }
 
-/// A row that is not made yet.
+/// A row before it is made.
 #[derive(Clone, Copy, Drop)]
 pub(crate) struct RowPlace<'p> {
     pub(crate) governing: Governing<'p>,
@@ -64,7 +64,7 @@ impl<'p> RowPlace<'p> {
         }
     }
 
-    /// What names the row beside its UID.
+    /// What identifies the row, besides its UID.
     pub(crate) fn id(&self) -> Result<RowId, NoMemory>
         ensures { IfOk result (λ id. id ≡ id_of self.now.kind) }
     {
@@ -97,7 +97,7 @@ impl<'p> RowPlace<'p> {
         }
     }
 
-    /// Which answers the row asks.
+    /// Which answers the row asks for.
     pub(crate) fn questions(&self) -> Questions<'p>
         ensures { result ≡ questions_of (governing_item self.now.governing) self.now.kind }
     {

@@ -15,9 +15,9 @@ use itip_todo::Status;
 use itoa::Buffer;
 use std::alloc::AllocError;
 
-/// Appends the text of rows, in the order given. Of no row it takes no memory.
+/// Appends the text of rows, in the given order. Without rows it takes no memory.
 ///
-/// On an error (out of memory) the vector is as before.
+/// On an error (out of memory) the contents of the vector are unchanged.
 pub fn write_list(rows: &[Row], out: &mut Vec<u8>) -> Result<(), AllocError>
     ensures ok { OnOk result (out.new.items ≡ out.old.items ++ list_text rows.now) }
     ensures err { OnErr result (out.new.items ≡ out.old.items) }
@@ -31,13 +31,13 @@ pub fn write_list(rows: &[Row], out: &mut Vec<u8>) -> Result<(), AllocError>
     done
 }
 
-/// Appends the text of rows; where memory is refused, that of some of them.
+/// Appends the text of rows. If an allocation fails, some of them may have been appended.
 fn append_list(rows: &[Row], out: &mut Vec<u8>) -> Result<(), AllocError>
     ensures text { OnOk result (out.new.items ≡ out.old.items ++ list_text rows.now) }
     ensures extends { Extends out.old.items out.new.items }
     ensures succeeds { rows.now ≡ [] → IsOk result }
 {
-    // A row is made apart, so that `out` has whole rows at each time, and what it had can be told from them.
+    // Each row is written to a buffer of its own first, so `out` only ever grows by whole rows, after what it had before.
     let mut text = Vec::new(*out.allocator());
     for row in rows {
         text.clear();
@@ -49,7 +49,7 @@ fn append_list(rows: &[Row], out: &mut Vec<u8>) -> Result<(), AllocError>
 
 /// Appends the text of a row.
 ///
-/// On an error (out of memory) a part of the text may stand in the vector: [`write_list`] takes it back.
+/// On an error (out of memory) part of the text may have been appended, unlike with [`write_list`].
 pub fn write_row(row: &Row, out: &mut Vec<u8>) -> Result<(), AllocError>
     ensures { OnOk result (out.new.items ≡ out.old.items ++ row_text row.now) }
 {
@@ -184,7 +184,7 @@ fn put_shown_number(out: &mut Vec<u8>, number: Option<u8>) -> Result<(), AllocEr
 fn put_number(out: &mut Vec<u8>, number: u32) -> Result<(), AllocError>
     ensures { OnOk result (out.new.items ≡ out.old.items ++ decimal number) }
 {
-    // Most have one digit.
+    // Most numbers have one digit.
     if number < 10 {
         return put_digit(out, number as u8);
     }

@@ -14,7 +14,7 @@ use itip_state::State;
 use itip_todo::Uid;
 use std::alloc::Global;
 
-/// The rows of a UID in a window that are asked for, in their order.
+/// The rows of a UID in a window that are asked for, in order.
 pub(crate) fn shown_rows(
     alloc: Global,
     state: &State,
@@ -30,8 +30,8 @@ pub(crate) fn shown_rows(
     Ok(rows)
 }
 
-/// Appends the text of these rows, each as it is made, and gives how many they are. After an error (out of memory) a part of them may be
-/// there.
+/// Appends the text of these rows, each as it is made, and returns their number. On an error (out of memory) part of it may have
+/// been appended.
 pub(crate) fn put_shown(
     alloc: Global,
     state: &State,
@@ -46,7 +46,7 @@ pub(crate) fn put_shown(
     put_rows_of_uid(alloc, &items, window, wanted, out)
 }
 
-/// How many they are. No row is made.
+/// The number of these rows. No row is made.
 pub(crate) fn count_shown(
     alloc: Global,
     state: &State,

@@ -8,15 +8,14 @@ use itip_items::{Item, Kind};
 use itip_moment::Moment;
 use itip_state::ItemsOfUid;
 
-/// Whether an item of this kind is a request or an addition: of the kinds of series, instance and range items, those that are not
-/// cancelled.
+/// Whether an item of this kind is live: a REQUEST or an ADD. Series, instance and range items of any other kind are cancelled.
 pub fn is_live(kind: Kind) -> bool
     ensures { result ≡ is_live kind }
 {
     matches!(kind, Kind::Request | Kind::Add)
 }
 
-/// An item, where it is live.
+/// The item if it is live, else `None`.
 pub fn if_live<'a>(item: Option<&'a Item>) -> Option<&'a Item>
     ensures { option_copied result ≡ if_live (option_copied item.entry) }
 {
@@ -26,7 +25,7 @@ pub fn if_live<'a>(item: Option<&'a Item>) -> Option<&'a Item>
     }
 }
 
-/// Whether an instance or range item stands beside the series item of its UID, where there is one.
+/// Whether an instance or range item stands beside the series item of its UID; true if there is none.
 pub fn stands_beside(series: Option<&Item>, item: &Item) -> bool
     ensures { IsTrue result ↔ StandsBesideOf (option_copied series.entry) item.now }
 {
@@ -42,7 +41,7 @@ pub fn stands_beside(series: Option<&Item>, item: &Item) -> bool
     }
 }
 
-/// The item that stands at an instance of a UID. It takes no memory.
+/// The item that stands at an instance of a UID, if any. It takes no memory.
 pub(crate) fn standing_item<'a>(items: &ItemsOfUid<'a>, at: &Moment) -> Option<&'a Item>
     ensures { MatchOption (option_copied result)
         (NoneStands items.now.items items.now.uid at.now)

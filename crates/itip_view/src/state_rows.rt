@@ -16,9 +16,9 @@ use itip_state::State;
 use itip_todo::Uid;
 use std::alloc::Global;
 
-/// The rows of a state in a window, in their order, at most 100,000. They are counted before one is made.
+/// The rows of a state in a window, in order, at most 100,000. They are counted before any is made.
 ///
-/// Refused where more rows stand there (31), or when out of memory (32).
+/// Returns [`ViewError::TooManyRows`] (31) if there are more, and [`ViewError::NoMemory`] (32) when out of memory.
 pub fn rows(alloc: Global, state: &State, window: Window) -> Result<Vec<Row>, ViewError>
     ensures rows { IfOk result (λ rows. AreRows state.now window rows.items) }
     ensures few { IfOk result (λ rows. length rows.items ≤ row_limit) }
@@ -31,10 +31,10 @@ pub fn rows(alloc: Global, state: &State, window: Window) -> Result<Vec<Row>, Vi
     }
 }
 
-/// The rows of one UID in a window, in their order, at most 100,000; where an address is given, those that show its attendee. No
-/// other UID is looked at.
+/// The rows of one UID in a window, in order, at most 100,000; with an address, only those that show its attendee. No other UID is
+/// looked at.
 ///
-/// Refused where there are more of these (31), or when out of memory (32).
+/// Returns [`ViewError::TooManyRows`] (31) if there are more, and [`ViewError::NoMemory`] (32) when out of memory.
 pub fn rows_of(
     alloc: Global,
     state: &State,

@@ -13,20 +13,20 @@ use crate::row::{Row, ShownAttendee};
 use itip_moment::Moment;
 use itip_todo::{PartStat, Status};
 
-/// Which rows are asked for: those that meet everything that is named here.
+/// Which rows are asked for: those that meet all of these conditions.
 #[derive(Clone, Copy, Debug, Drop)]
 pub struct Wanted<'a> {
-    /// The address of an attendee whom the row shows, compared with ASCII letters in lower case.
+    /// The address of an attendee that the row has to show; ASCII case is ignored.
     pub attendee: Option<&'a str>,
-    /// Whether only open rows are asked for: those whose STATUS is neither COMPLETED nor CANCELLED, and that show the attendee,
-    /// where one is named, with a PARTSTAT that is none of COMPLETED, DECLINED and DELEGATED.
+    /// Whether only open rows are asked for: those whose STATUS is neither COMPLETED nor CANCELLED and that, if an attendee is named,
+    /// show them with a PARTSTAT that is none of COMPLETED, DECLINED and DELEGATED.
     pub is_open: bool,
-    /// A day, counted from 1970-01-01, that the row is due before: it has a DUE, whose day as written is before this one.
+    /// A day, counted from 1970-01-01, before which the row is due: it has a DUE whose day, as written, is before this one.
     pub due_before: Option<i32>,
 }
 
 impl<'a> Wanted<'a> {
-    /// All rows.
+    /// Asks for all rows.
     pub fn all() -> Wanted<'a>
         ensures { (row : Row) → Wants result row }
     {
@@ -37,7 +37,7 @@ impl<'a> Wanted<'a> {
         }
     }
 
-    /// The rows that show the attendee of an address; all rows where there is none.
+    /// Asks for the rows that show the attendee of an address, or for all rows if there is no address.
     pub fn showing(attendee: Option<&'a str>) -> Wanted<'a>
         ensures { (row : Row) → Wants result row ↔ ShowsNamed (option_map (λ a. a.now) attendee.entry) row }
     {
@@ -48,7 +48,7 @@ impl<'a> Wanted<'a> {
         }
     }
 
-    /// Whether a row with this DUE and this STATUS is asked for, where it shows the attendee who is named.
+    /// Whether a row with this DUE and this STATUS is asked for, provided that it shows the attendee who is named.
     pub(crate) fn takes(&self, due: &Option<Moment>, status: Option<Status>) -> bool
         ensures { result ≡ takes self.now due.now status }
     {
@@ -65,14 +65,14 @@ impl<'a> Wanted<'a> {
     }
 }
 
-/// Whether a row is overdue on a day, counted from 1970-01-01: it is open, and has a DUE, whose day as written is before this one.
+/// Whether a row is overdue on a day, counted from 1970-01-01: it is open, and has a DUE whose day, as written, is before this one.
 pub fn is_overdue(row: &Row, today: i32) -> bool
     ensures { result ≡ is_overdue today row.now }
 {
     is_due_before(&row.due, Some(today)) && !is_over(row.status)
 }
 
-/// Whether one of these is the attendee who is named, where one is; where only open rows are asked for, with something left to do.
+/// Whether one of these is the attendee who is named, with something left to do if `is_open`; true if none is named.
 fn shows_named(attendees: &[ShownAttendee], named: Option<&str>, is_open: bool) -> bool
     ensures { result ≡ shows_named is_open (option_copied named.entry) attendees.now }
 {
@@ -90,14 +90,14 @@ fn shows(attendees: &[ShownAttendee], address: &str, is_open: bool) -> bool
         .any(|attendee| is_asked(attendee, address, is_open))
 }
 
-/// Whether an attendee is that of an address; where only open rows are asked for, with something left to do.
+/// Whether an attendee is that of an address, with something left to do if only open rows are asked for.
 pub(crate) fn is_asked(attendee: &ShownAttendee, address: &str, is_open: bool) -> bool
     ensures { result ≡ is_asked is_open address.now attendee.now }
 {
     is_named(attendee.address.as_str(), address) && !(is_open && is_done(attendee.partstat))
 }
 
-/// Whether an address that is shown is that of the attendee of an address.
+/// Whether two addresses are those of one attendee: ASCII case is ignored.
 pub(crate) fn is_named(shown: &str, address: &str) -> bool
     ensures { result ≡ same_text (attendee_key shown.now) (attendee_key address.now) }
 {
@@ -114,7 +114,7 @@ fn is_done(partstat: PartStat) -> bool
     )
 }
 
-/// Whether a row with this STATUS is done or cancelled.
+/// Whether a row with this STATUS is completed or cancelled.
 fn is_over(status: Option<Status>) -> bool
     ensures { result ≡ is_over status }
 {
@@ -130,7 +130,7 @@ fn is_closed(status: Status) -> bool
     matches!(status, Status::Completed | Status::Cancelled)
 }
 
-/// Whether DUE is before the day that is named, where one is.
+/// Whether DUE is before the day that is named; true if none is.
 fn is_due_before(due: &Option<Moment>, day: Option<i32>) -> bool
     ensures { result ≡ is_due_before day due.now }
 {

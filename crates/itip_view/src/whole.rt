@@ -25,7 +25,7 @@ pub(crate) struct Whole<'a> {
     pub(crate) shape: Shape,
 }
 
-/// What is shown of a to-do as a whole: nothing where it is cancelled or not known.
+/// The to-do as a whole; `None` if it is cancelled or not known.
 pub(crate) fn whole_of<'a>(
     alloc: Global,
     items: &ItemsOfUid<'a>,
@@ -41,7 +41,7 @@ pub(crate) fn whole_of<'a>(
     }
 }
 
-/// The moments given, ascending, each once.
+/// The given moments in ascending order, each once.
 pub(crate) fn sorted_moments(moments: Vec<Moment>) -> Result<Vec<Moment>, NoMemory>
     ensures ascend { IfOk result (λ sorted. IsStrictlySortedBy moment_cmp sorted.items) }
     ensures same { IfOk result (λ sorted. (at : Moment) → Contains sorted.items at ↔ Contains moments.items at) }
@@ -52,7 +52,7 @@ pub(crate) fn sorted_moments(moments: Vec<Moment>) -> Result<Vec<Moment>, NoMemo
     Ok(moments)
 }
 
-/// The occurrences in the window of a to-do that repeats.
+/// The occurrences of a to-do in a window; none unless it repeats.
 pub(crate) fn occurrences(
     alloc: Global,
     whole: &Option<Whole<'_>>,
@@ -70,7 +70,7 @@ pub(crate) fn occurrences(
     }
 }
 
-/// Whether a to-do that repeats has an occurrence at a moment.
+/// Whether a to-do has an occurrence at a moment; false unless it repeats.
 pub(crate) fn occurs_at(
     alloc: Global,
     whole: &Option<Whole<'_>>,
@@ -88,7 +88,7 @@ pub(crate) fn occurs_at(
     }
 }
 
-/// Whether a series has an occurrence at a moment. Only those of its day are listed.
+/// Whether a series has an occurrence at a moment. Only the occurrences of its day are listed.
 fn occurs(alloc: Global, series: &Series, at: &Moment) -> Result<bool, NoMemory>
     ensures { IfOk result (λ occurs. IsTrue occurs ↔ Occurs series.now at.now) }
 {

@@ -5,7 +5,7 @@ ghost use Rattle.itip_view.specs.Window.{IsWindow};
 use crate::error::BadWindow;
 use itip_moment::Day;
 
-/// The days from one day number up to another that is not in it, counted from 1970-01-01: at least one day, at most 3,660.
+/// The days from `from` up to but not including `to`, both counted from 1970-01-01: at least 1 day, at most 3,660.
 #[derive(Clone, Copy, Debug, PartialEq, Eq)]
 pub struct Window {
     pub from: i32,
@@ -16,7 +16,7 @@ pub struct Window {
 impl Window {
     ghost use Rattle.itip_view.specs.InWindow.{is_in_window};
 
-    /// The days `from <= day < to`. Refused where `to <= from`, or where there are more than 3,660 days.
+    /// The window of the days `from <= day < to`. Returns [`BadWindow`] if `to <= from`, or if there are more than 3,660 days.
     pub fn new(from: i32, to: i32) -> Result<Window, BadWindow>
         ensures lawful { IsOk result ↔ IsWindow from to }
         ensures window { IfOk result (λ w. (w.from ≡ from) × (w.to ≡ to)) }
@@ -28,7 +28,7 @@ impl Window {
         Ok(Window { from, to })
     }
 
-    /// The days from one up to another that is not in it. Refused as by [`new`](Window::new).
+    /// The window from one day up to but not including another. Fails like [`new`](Window::new).
     pub fn of(from: Day, to: Day) -> Result<Window, BadWindow>
         ensures lawful { IsOk result ↔ IsWindow from.number to.number }
         ensures window { IfOk result (λ w. (w.from ≡ from.number) × (w.to ≡ to.number)) }
@@ -36,7 +36,7 @@ impl Window {
         Window::new(from.number, to.number)
     }
 
-    /// Whether a day is in the window; what has no day is in each.
+    /// Whether a day is in the window; `None`, for what has no day, is in every window.
     pub fn has(self, day: Option<i32>) -> bool
         ensures { result ≡ is_in_window self day }
     {

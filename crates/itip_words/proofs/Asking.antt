@@ -67,7 +67,7 @@ module _ (options : Options) (desks from to : List ℕ) (desks_is : Some desks �
   })
   no_script (Some scripted) never = tt
 
--- the same where no desk begins with a file
+-- the same if no desk is loaded from a file
 pub script_run : (options : Options) (r : Option Scripted) → values_of (codes "load") options ≡ None → IfSome r (AsksScript options) →
     IfNone r (Never (AsksScript options)) → Finds (AsksRun options) r
 script_run options None none asks never = λ scripted is. never scripted is.script

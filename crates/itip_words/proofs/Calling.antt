@@ -1,4 +1,4 @@
--- Calls that words ask for, and that there can be.
+-- Calls that words ask for and that are possible.
 use Rattle.std.proofs.Common.{◌≡◌, ◌≢◌, ℕ, List, true, false, Option, Some, None, refl, sym, subst, ◌∙◌}
 use Rattle.std.proofs.Common.{codes}
 use Rattle.std.specs.Prelude.{bytes_eq, IfSome, IsSomeAnd, MatchOption}
@@ -60,7 +60,7 @@ asked_by (Some words) clock what is = is.asked
 -- ---- what no word asks for
 
 module _ (options : Options) (clock : Option Stamp) where
-  -- nothing is written at the name of another word
+  -- nothing is written for the name of another word
   no_written_by : (word : List ℕ) → bytes_eq word (codes "compact") ≡ false → bytes_eq word (codes "list") ≡ false →
       bytes_eq word (codes "report") ≡ false → bytes_eq word (codes "news") ≡ false → bytes_eq word (codes "explain") ≡ false →
       bytes_eq word (codes "request") ≡ false → bytes_eq word (codes "resend") ≡ false → bytes_eq word (codes "reply") ≡ false →

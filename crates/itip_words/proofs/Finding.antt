@@ -17,7 +17,7 @@ pub finds_both : {T : Type 0} (P : T → Type 0) (found : Option T) → IfSome f
 finds_both P None some none = none
 finds_both P (Some x) some none = some
 
--- of what is so alone, the same is found
+-- what is found for P is found for Q, if both hold of the same
 pub finds_as : {T : Type 0} (P Q : T → Type 0) (found : Option T) → ((x : T) → P x → Q x) → ((x : T) → Q x → P x) → Finds P found →
     Finds Q found
 finds_as P Q None more less never = λ x q. never x (less x q)
@@ -63,7 +63,7 @@ one_given read (Some text) x y p q = same_Some x y (sym p ∙ q)
 pub apart : (a b : List ℕ) → bytes_eq a b ≡ false → a ≢ b
 apart a b differ = λ e. let bad : false ≡ true = sym differ ∙ (bytes_eq-Decides a b).1 e in absurd cc
 
--- what a test of a word tells where it fails
+-- what a test of a word tells if it fails
 pub not_named : (word name : List ℕ) (test : Bool) → test ≡ pointwise nat_eq word name → test ≡ false → word ≢ name
 not_named word name test is fails = apart word name (sym is ∙ fails)
 

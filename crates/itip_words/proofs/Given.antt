@@ -16,7 +16,7 @@ of_given o text P e p = subst (λ (v : Option (List ℕ)). IsSomeAnd v P) (sym e
 pub none_given : (o : Option (List ℕ)) (P : List ℕ → Type 0) → None ≡ o → IsSomeAnd o P → ⊥
 none_given o P e p = subst (λ (v : Option (List ℕ)). IsSomeAnd v P) (sym e) p
 
--- what stands there has the two parts of one
+-- what is given has both parts of one value
 pub both_parts : {R B X Y : Type 0} (a : R → X) (b : R → Y) (f : B → X) (g : B → Y) (r : Option R) (o : Option B) →
     option_map a r ≡ option_map f o → option_map b r ≡ option_map (λ (p : X × Y). p.1) (option_map {U = X × Y} (λ x. (f x, g x)) o) →
     option_map {U = X × Y} (λ p. (a p, b p)) r ≡ option_map (λ x. (f x, g x)) o

@@ -1,4 +1,4 @@
--- Desks that begin with files, one more after another.
+-- Desks that are loaded from files, one after another.
 use Rattle.std.proofs.Common.{◌≡◌, ◌≢◌, ◌∙◌, sym, ap, ap₂, subst, ℕ, ◌+◌, ◌<◌, ◌≤◌, ◌==◌, Bool, true, false, Option, Some, None}
 use Rattle.std.proofs.Common.{List, [], ◌∷◌, ◌++◌, map, take, drop, length, get_or, string_bytes, MatchOption, arith, eq-eqb}
 use Rattle.std.specs.Prelude.{if◌then◌else◌, option_map}
@@ -42,7 +42,7 @@ none_named desk loads none = λ k d below e.
 
 -- ---- texts that name desks and files
 
--- what is cut of a text
+-- the load that a text names, cut at its `=`
 abbrev load_named : List ℕ → List ℕ → Option (ℕ × List ℕ)
 load_named before after = if length after == 0 then None else option_map (λ desk. (desk, after)) (number_of before)
 

@@ -32,7 +32,7 @@ module _ (options : Options) where
   never_unnamed word other none (asked.CancelOnward uid id) is = none-some _ (none ∙ is.1.uid_is)
   never_unnamed word other none (asked.Remove uid id attendees) is = none-some _ (none ∙ is.1.uid_is)
 
-  -- the others are about an instance where one is named
+  -- the others are about an instance if one is named
   pub never_placed : (word : List ℕ) → word ≢ codes "request" → word ≢ codes "resend" →
       Never (IsRead IsMomentName (value_of (codes "id") options)) → (one : Asked) → AsksMessage word options one → ⊥
   never_placed word other not_resend never (asked.Resend uid) is = not_resend is.0

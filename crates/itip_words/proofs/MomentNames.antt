@@ -11,13 +11,13 @@ use Rattle.itip_moment.specs.declared.moment.Moment.TheVariants.{Date, Floating,
 use Rattle.itip_moment.proofs.ValueLaws.{moment_text-one}
 use Rattle.itip_words.specs.AskedValues.{zoned_text, IsMomentName, IsZonedName, IsTimeIn, if_zoned}
 
--- a local time has fifteen octets
+-- a local time has fifteen bytes
 pub local_length : (text : List ℕ) (day : ℤ) (second : ℕ) → IsLocalText text day second → length text ≡ 15
 local_length text day second is =
     ap length (is.parts ∙ ap (λ (d : List ℕ). d ++ 84 ∷ is.clock) is.date_is.spelt ∙
     ap (λ (c : List ℕ). date_digits is.date_is.year is.date_is.month is.date_is.day_of_month ++ 84 ∷ c) is.clock_is.spelt)
 
--- the end of a text with fifteen octets behind a `:` begins sixteen octets before its end, and nowhere else
+-- a `:` with fifteen bytes after it begins sixteen bytes before the end of a text, and nowhere else
 pub same_parts : (zone time z t : List ℕ) → zone ++ 58 ∷ time ≡ z ++ 58 ∷ t → length time ≡ 15 → length t ≡ 15 → (zone ≡ z) × (time ≡ t)
 same_parts zone time z t e long size =
     let sizes : length zone ≡ length z = omega (arith, ap length e, length-append zone (58 ∷ time), length-append z (58 ∷ t)) in
@@ -26,7 +26,7 @@ same_parts zone time z t e long size =
     let back : 58 ∷ time ≡ 58 ∷ t = sym (drop-append_seam zone (58 ∷ time)) ∙ ap (drop (length zone)) e ∙
     ap (λ n. drop n (z ++ 58 ∷ t)) sizes ∙ drop-append_seam z (58 ∷ t) in (front, ap (drop 1) back)
 
--- a text of which the last sixteen octets don't begin with `:` has no such parts
+-- a text whose last sixteen bytes don't begin with `:` has no such parts
 pub no_time : (text rest zone end : List ℕ) → text ≡ codes "TZID=" ++ rest → rest ≡ zone ++ end → length end ≡ 16 →
     ((r : List ℕ) → end ≢ 58 ∷ r) → (z t : List ℕ) → length t ≡ 15 → text ≢ zoned_text z t
 no_time text rest zone end front parts size never z t short e =
@@ -35,7 +35,7 @@ no_time text rest zone end front parts size never z t short e =
     never t (sym (drop-append_seam zone end) ∙ ap (drop (length zone)) same ∙ ap (λ n. drop n (z ++ 58 ∷ t)) sizes ∙
     drop-append_seam z (58 ∷ t))
 
--- no moment is named in a zone where the text has no such parts
+-- a text without such parts names no moment in a zone
 pub none_zoned : (text : List ℕ) → ((zone time : List ℕ) → length time ≡ 15 → text ≢ zoned_text zone time) → (m : Moment) →
     IsZonedName text m → ⊥
 none_zoned text never (Date day) named = named
@@ -44,7 +44,7 @@ none_zoned text never (Utc stamp) named = named
 none_zoned text never (Zoned zone stamp) named =
     never zone.bytes named.time (local_length named.time stamp.day stamp.second named.time_is) named.spelt
 
--- where the text has these parts, it names what they name
+-- a text with these parts names what they name
 pub zoned_in : (text zone time : List ℕ) → text ≡ zoned_text zone time → (m : Moment) → IsTimeIn zone time m → IsZonedName text m
 zoned_in text zone time e (Date day) named = named
 zoned_in text zone time e (Floating stamp) named = named
@@ -65,14 +65,14 @@ in_zoned text zone time e long (Zoned name stamp) named =
       subst (λ (t : List ℕ). IsLocalText t stamp.day stamp.second) parts.1 named.time_is,
     )
 
--- a local time in a zone is what the text spells beside it
+-- a local time in a zone is what its text spells with the zone
 pub in_text : (zone time : List ℕ) (m : Moment) → IsTimeIn zone time m → MomentText time (Some zone) m
 in_text zone time (Date day) named = absurd named
 in_text zone time (Floating stamp) named = absurd named
 in_text zone time (Utc stamp) named = absurd named
 in_text zone time (Zoned name stamp) named = (named.1, ap (λ (z : List ℕ). Some z) (sym named.0))
 
--- of what the text spells beside the zone, a moment in a zone is in this one, and beside any other there is none
+-- if what the text spells with the zone is a moment in a zone, it is in this one; if not, the text spells no time in it
 pub timed : (zone time : List ℕ) (m : Moment) → MomentText time (Some zone) m → IfSome (if_zoned m) (IsTimeIn zone time)
 timed zone time (Date day) is = tt
 timed zone time (Floating stamp) is = tt
@@ -112,7 +112,7 @@ named_zoned text never (Floating stamp) named = never (Floating stamp) (named, r
 named_zoned text never (Utc stamp) named = never (Utc stamp) named
 named_zoned text never (Zoned zone stamp) named = named
 
--- where nothing is found of what is sought, nothing is found of less
+-- if nothing is found of what is sought, nothing is found of less
 pub none_more : {E : Type 0} (P Q : Moment → Type 0) (r : Result (Option Moment) E) → ((m : Moment) → Q m → P m) →
     IfOk r (λ found. IfNone found ((m : Moment) → P m → ⊥)) → IfOk r (λ found. IfNone found ((m : Moment) → Q m → ⊥))
 none_more P Q (Ok None) less none = λ m q. none m (less m q)

@@ -31,7 +31,7 @@ use Rattle.itip_words.proofs.Messages.{never_message}
 
 -- ---- days
 
--- no day is taken for today where the word for it is no date
+-- no day is taken as today if the word for it is no date
 pub never_today : (text : List ℕ) (clock : Option Stamp) → Never (IsDateText text) → (today : Option ℤ) →
     IsToday (Some text) clock today → ⊥
 never_today text clock never None is = is
@@ -43,7 +43,7 @@ today_one (Some text) clock None b p q = absurd p
 today_one (Some text) clock (Some a) None p q = absurd q
 today_one (Some text) clock (Some a) (Some b) p q = ap (λ (day : ℤ). Some day) (date_text-one text a b p q)
 
--- where no day is taken for today there is no clock, and no word for it
+-- if no day is taken as today, there is no clock, and no word for it
 pub no_clock : (o : Option (List ℕ)) (clock : Option Stamp) → IsToday o clock None → clock ≡ None
 no_clock None None is = refl
 no_clock None (Some now) is = absurd (none-some now.day is)
@@ -208,7 +208,7 @@ module _ (word : List ℕ) (options : Options) where
   input_one clock filter is =
       ap₂ (λ (n : ℕ) (sources : List (List ℕ)). nat_le (n + inputs sources) 1) (inputs_are clock filter.written is.1) is.0.sources
 
-  -- where one filter that is asked for reads it twice, so does each
+  -- if one filter that is asked for reads it twice, so does each
   pub never_once : (clock : Option Stamp) (filter : Filter) → AsksFilter word options clock filter → reads_input_once filter ≡ false →
       Never (IsFilterOf word options clock)
   never_once clock filter is twice = λ other like.

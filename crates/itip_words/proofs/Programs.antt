@@ -52,7 +52,7 @@ word_set app change old new fields word are same local = record {
   local = ap (λ (f : Command-F Command). f.has_globals) are ∙ local ∙ word.local;
 }
 
--- texts and settings that are no option leave the word as it is
+-- texts and settings that aren't options leave the word as it is
 pub word_kept : (app : App) (old new : Command) (fields : Command-F Command) → IsWord app old → fields_of new ≡ fields →
     app_of_fields fields ≡ app_of old → fields.has_globals ≡ (fields_of old).has_globals → IsWord app new
 word_kept app old new fields word are same local = record {

@@ -1,4 +1,4 @@
--- Desks that can't begin with the files that words name.
+-- Desks that can't be loaded from the files that words name.
 use Rattle.std.proofs.Common.{◌≡◌, ◌≢◌, ◌∙◌, refl, sym, ap, subst, ℕ, ◌<◌, ◌≤◌, ◌==◌, true, Option, Some, None}
 use Rattle.std.proofs.Common.{List, [], ◌∷◌, map, take, length, get_or, codes, unwrap_or, eqb-true, arith}
 use Rattle.std.proofs.Common.{length-take-le}
@@ -86,7 +86,7 @@ module _ (texts : List (Bor (List ℕ))) (names : List (ℕ × List ℕ)) (all :
       once k i (0, []) (omega (arith, few, below)) (subst (λ n. i < n) (sym as_many) inside)
       (sym (ap (λ (name : ℕ × List ℕ). name.0) here) ∙ same)
 
--- where a word names no load beside those that were read before it, no stream is asked for
+-- if a word names no load besides those that were read before it, no stream is asked for
 pub no_stream : (options : Options) (scripted : Scripted) → AsksScript options scripted → (texts : List (Bor (List ℕ))) →
     map text_of texts ≡ unwrap_or (values_of (codes "load") options) [] → (i : ℕ) (d : Bor (List ℕ)) → i < length texts →
     (loads before : List Load) → before ≡ loads → AreRead (take i texts) loads →

@@ -1,4 +1,4 @@
--- What isn't asked for where no day is taken for today.
+-- What isn't asked for if no day is taken as today.
 use Rattle.std.proofs.Common.{◌≡◌, ◌∙◌, ℕ, List, Bool, true, false, not, ◌||◌, Option, Some, None, refl, sym, subst, codes}
 use Rattle.std.specs.Prelude.{ℤ, is_some, IsSomeAnd, MatchBool}
 use Rattle.std.specs.Option.{option_map_or}

@@ -28,7 +28,7 @@ inputs_of_draft (asked.Cancel uid id) = 0
 inputs_of_draft (asked.CancelOnward uid id) = 0
 inputs_of_draft (asked.Remove uid id attendees) = 0
 
--- What is to be written is what was asked for, of the to-dos of a draft where it is a request.
+-- What is to be written is what was asked for; a request is of the to-dos of a draft.
 abbrev pub IsErrandOf : Asked → List Todo → Errand → Type 0
 IsErrandOf (asked.Resend uid) draft (errand.Resend to) = to.now ≡ uid
 IsErrandOf (asked.Request name) draft (errand.Request todos) = todos.now ≡ draft

@@ -10,7 +10,7 @@ use Rattle.itip_todo.specs.declared.attendee.PartStat.{PartStat}
 use Rattle.itip_todo.specs.declared.attendee.PartStat.TheVariants as partstat
 use Rattle.itip_script.specs.Orders.{number_of}
 
--- `TZID=`, a zone, `:` (58), and the octets of a time
+-- `TZID=`, a zone, `:` (58), and the text of a time
 abbrev pub zoned_text : List ℕ → List ℕ → List ℕ
 zoned_text zone time = codes "TZID=" ++ (zone ++ 58 ∷ time)
 
@@ -20,7 +20,7 @@ pub record IsZonedText (text zone : List ℕ) (stamp : Stamp) : Type 0 where
   pub spelt : text ≡ zoned_text zone time
   pub time_is : IsLocalText time stamp.day stamp.second
 
--- A text names the moment: as reports show it, with the zone before a local time, and nothing before a date, a UTC time or a
+-- A text names the moment as reports show it: with the zone before a local time in one, and nothing before a date, a UTC time or a
 -- local time without zone.
 abbrev pub IsMomentName : List ℕ → Moment → Type 0
 IsMomentName text (Date day) = IsDateText text day.number
@@ -28,7 +28,7 @@ IsMomentName text (Floating stamp) = IsLocalText text stamp.day stamp.second
 IsMomentName text (Utc stamp) = IsUtcText text stamp.day stamp.second
 IsMomentName text (Zoned zone stamp) = IsZonedText text zone.bytes stamp
 
--- the same of a moment in a zone alone
+-- the same, for moments in a zone only
 abbrev pub IsZonedName : List ℕ → Moment → Type 0
 IsZonedName text (Date day) = ⊥
 IsZonedName text (Floating stamp) = ⊥
@@ -53,7 +53,7 @@ if_zoned (Zoned zone stamp) = Some (Zoned zone stamp)
 abbrev pub percent_of : List ℕ → Option ℕ
 percent_of text = option_and_then (λ percent. if nat_le percent 100 then Some percent else None) (number_of text)
 
--- The participation that an attendee can answer, by its name in upper case: each but DELEGATED, which names somebody else.
+-- The participation that an attendee can answer, by its name in upper case: any but DELEGATED, which names somebody else.
 abbrev pub answer_named : List ℕ → Option PartStat
 answer_named name =
     cond (same_text name (codes "NEEDS-ACTION")) (Some partstat.NeedsAction)

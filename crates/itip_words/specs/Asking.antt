@@ -31,7 +31,7 @@ use Rattle.itip_words.specs.declared.words.Scripted.{Scripted}
 use Rattle.itip_words.specs.declared.streamed.Streamed.{Streamed}
 use Rattle.itip_words.specs.Streams.{load_of, names_of}
 
--- A value is there exactly where its text is given, and then the text stands for it.
+-- A value is there exactly if its text is given, and then the text stands for it.
 abbrev pub IsRead : {T : Type 0} → (List ℕ → T → Type 0) → Option (List ℕ) → Option T → Type 0
 IsRead Is None None = Unit {0}
 IsRead Is None (Some value) = ⊥
@@ -47,12 +47,12 @@ pub record AsksScript (options : Options) (scripted : Scripted) : Type 0 where
   pub after : IsSomeAnd (value_of (codes "to") options) (λ text. IsDateText text scripted.window.to)
   pub why : scripted.why ≡ is_set (codes "why") options
 
--- The same of a script that is no stream: no desk begins with a file.
+-- The same for a script that is no stream: no desk is loaded from a file.
 pub record AsksRun (options : Options) (scripted : Scripted) : Type 0 where
   pub script : AsksScript options scripted
   pub no_loads : values_of (codes "load") options ≡ None
 
--- The same of a stream, of which the desks that `--load` names begin with its files.
+-- The same for a stream; the desks that `--load` names are loaded from its files.
 pub record AsksStream (options : Options) (streamed : Streamed) : Type 0 where
   pub script : AsksScript options streamed.scripted
   pub loads : map load_of (unwrap_or (values_of (codes "load") options) []) ≡ map Some (names_of streamed.loads.items)
@@ -67,7 +67,7 @@ AsksWorkers options workers = IsSomeAnd (value_of (codes "workers") options) (λ
 abbrev pub reads_draft : Options → Bool
 reads_draft options = option_map_or is_input (value_of (codes "draft") options) false
 
--- The sources that are named; without one standard input, unless a draft is read from there.
+-- The sources that are named; if none are, standard input, unless a draft is read from there.
 abbrev pub sources_of : Options → List (List ℕ)
 sources_of options = unwrap_or (values_of (codes "source") options) (if reads_draft options then [] else codes "-" ∷ [])
 
@@ -83,7 +83,7 @@ pub record AsksIntake (options : Options) (intake : Intake) : Type 0 where
 
 -- ---- rows
 
--- The day that is taken for today: that of a text, where it is given, else that of the clock.
+-- The day that is taken as today: that of the text if it is given, else that of the clock.
 abbrev pub IsToday : Option (List ℕ) → Option Stamp → Option ℤ → Type 0
 IsToday None clock today = today ≡ option_map (λ (stamp : Stamp). stamp.day) clock
 IsToday (Some text) clock today = IsSomeAnd today (IsDateText text)
@@ -96,14 +96,14 @@ IsDueDay today text day = MatchBool (is_today text) (today ≡ Some day) (IsDate
 abbrev pub is_page : List ℕ → Bool
 is_page text = pointwise nat_eq text (codes "html")
 
--- the form that a text names; a page has the day that is taken for today
+-- the format that a text names; a page has the day that is taken as today
 abbrev pub IsFormatNamed : Option ℤ → List ℕ → Format → Type 0
 IsFormatNamed today text format.Text = text ≡ codes "text"
 IsFormatNamed today text format.Csv = text ≡ codes "csv"
 IsFormatNamed today text format.Json = text ≡ codes "json"
 IsFormatNamed today text (format.Html day) = (text ≡ codes "html") × (today ≡ Some day.number)
 
--- the form of `--format`
+-- the format of `--format`
 abbrev pub IsFormatGiven : Options → Option ℤ → Format → Type 0
 IsFormatGiven options today form = IsSomeAnd (value_of (codes "format") options) (λ text. IsFormatNamed today text form)
 
@@ -117,17 +117,17 @@ is_due_today options = option_map_or is_today (value_of (codes "due-before") opt
 abbrev pub is_of_page : Options → Bool
 is_of_page options = option_map_or is_page (value_of (codes "format") options) false
 
--- rows go by the day that is taken for today
+-- the rows, or how they are written, depend on the day that is taken as today
 abbrev pub needs_today : Options → Bool
 needs_today options = not (names_window options) || is_due_today options || is_of_page options
 
--- no day is taken for today, and something goes by it
+-- no day is taken as today, and something depends on it
 pub record LacksToday (options : Options) (clock : Option Stamp) (needs : Bool) : Type 0 where
   pub late : clock ≡ None
   pub unnamed : value_of (codes "today") options ≡ None
   pub needed : needs ≡ true
 
--- The rows of the window of `--from` and `--to`, of which only those that `--attendee`, `--open` and `--due-before` leave.
+-- The rows of the window of `--from` and `--to` that `--attendee`, `--open` and `--due-before` leave.
 pub record AsksListing (options : Options) (clock : Option Stamp) (listing : Listing) : Type 0 where
   pub today : Option ℤ
   pub today_is : IsToday (value_of (codes "today") options) clock today
@@ -158,17 +158,17 @@ pub record AsksReport (options : Options) (clock : Option Stamp) (reported : Rep
 
 -- ---- messages
 
--- The moment of writing: that of a text, where it is given, else that of the clock.
+-- The moment of writing: that of the text if it is given, else that of the clock.
 abbrev pub IsWritingTime : Option (List ℕ) → Option Stamp → Stamp → Type 0
 IsWritingTime None clock at = clock ≡ Some at
 IsWritingTime (Some text) clock at = IsStampText text at
 
--- the to-do of this UID, and the instance of `--id`, where one is named
+-- the to-do of this UID, and the instance of `--id`, if one is named
 pub record AsksAbout (options : Options) (uid : List ℕ) (id : Option Moment) : Type 0 where
   pub uid_is : value_of (codes "uid") options ≡ Some uid
   pub id_is : IsRead IsMomentName (value_of (codes "id") options) id
 
--- an attendee of this address
+-- the attendee of this address
 abbrev pub AsksWho : Options → List ℕ → Type 0
 AsksWho options address = option_map address_of (value_of (codes "attendee") options) ≡ Some address
 
@@ -184,7 +184,7 @@ pub record AsksReply (options : Options) (uid : List ℕ) (id : Option Moment) (
     pub status_is : IsSomeAnd (value_of (codes "status") options) (λ text. answer_named text ≡ Some status)
     pub percent_is : IsRead IsPercent (value_of (codes "percent") options) percent
 
--- The message of a word.
+-- The message that a word asks for.
 abbrev pub AsksMessage : List ℕ → Options → Asked → Type 0
 AsksMessage word options (asked.Resend uid) = (word ≡ codes "resend") × (value_of (codes "uid") options ≡ Some uid)
 AsksMessage word options (asked.Request draft) =
@@ -206,7 +206,7 @@ AsksMessage word options (asked.Remove uid id attendees) =
 
 -- ---- calls
 
--- the file of a name; none of `-`, which is standard output
+-- the file of a name; none for `-`, which is standard output
 abbrev pub file_named : Option (List ℕ) → Option (List ℕ)
 file_named None = None
 file_named (Some name) = if is_input name then None else Some name

@@ -15,7 +15,7 @@ use Rattle.itip_words.specs.Words.{AreDesks, AreWorkers, AreThreads}
 use Rattle.itip_words.specs.Values.{inputs}
 use Rattle.itip_words.specs.Asked.{asked_word, inputs_of_draft}
 
--- of a call: P of how a script is run, where one is
+-- of a call: P of how a script is run, if one is
 abbrev pub IfRun : (Scripted → Type 0) → Call → Type 0
 IfRun P (call.Run scripted) = P scripted
 IfRun P (call.Stream streamed) = Unit {0}
@@ -23,7 +23,7 @@ IfRun P (call.Office scripted workers) = Unit {0}
 IfRun P (call.Check why) = Unit {0}
 IfRun P (call.Filter f) = Unit {0}
 
--- of a call: P of how a stream of commands is served, where one is
+-- of a call: P of how a stream of commands is served, if one is
 abbrev pub IfStream : (Streamed → Type 0) → Call → Type 0
 IfStream P (call.Run scripted) = Unit {0}
 IfStream P (call.Stream streamed) = P streamed
@@ -31,12 +31,12 @@ IfStream P (call.Office scripted workers) = Unit {0}
 IfStream P (call.Check why) = Unit {0}
 IfStream P (call.Filter f) = Unit {0}
 
--- there can be such desks, and each that is read from a file is read from one
+-- there can be this many desks, and each that is loaded from a file is loaded from one file
 pub record AreStreamed (streamed : Streamed) : Type 0 where
   pub desks : AreDesks streamed.scripted.desks
   pub loads : AreLoads streamed.scripted.desks (names_of streamed.loads.items)
 
--- of a call: P of how the jobs of a script are run and by how many workers, where they are
+-- of a call: P of how the jobs of a script are run and by how many workers, if they are
 abbrev pub IfOffice : (Scripted → ℕ → Type 0) → Call → Type 0
 IfOffice P (call.Run scripted) = Unit {0}
 IfOffice P (call.Stream streamed) = Unit {0}
@@ -44,7 +44,7 @@ IfOffice P (call.Office scripted workers) = P scripted workers
 IfOffice P (call.Check why) = Unit {0}
 IfOffice P (call.Filter f) = Unit {0}
 
--- of a call: P of what is written of messages, where they are filtered
+-- of a call: P of how messages are read and what is written of them, if they are
 abbrev pub IfFilter : (Filter → Type 0) → Call → Type 0
 IfFilter P (call.Run scripted) = Unit {0}
 IfFilter P (call.Stream streamed) = Unit {0}
@@ -74,11 +74,11 @@ inputs_before (written.News than) = inputs (map string_bytes than.items)
 inputs_before (written.Explanation uid) = 0
 inputs_before (written.Message asked at) = inputs_of_draft asked
 
--- Standard input is read once at most.
+-- Standard input is read at most once.
 abbrev pub reads_input_once : Filter → Bool
 reads_input_once asked = nat_le (inputs_before asked.written + inputs (map string_bytes asked.intake.sources.items)) 1
 
--- Messages can be filtered so: by 1 to 8 threads where their number is given, and with standard input read once at most.
+-- Messages can be read like this: on 1 to 8 threads if a number is given, and with standard input read at most once.
 pub record CanFilter (asked : Filter) : Type 0 where
   pub few : IfSome asked.intake.threads AreThreads
   pub once : IsTrue (reads_input_once asked)
@@ -91,7 +91,7 @@ CanBe (call.Office scripted workers) = AreOffice scripted workers
 CanBe (call.Check why) = Unit {0}
 CanBe (call.Filter f) = CanFilter f
 
--- ---- calls that can be, and are asked for
+-- ---- calls that are possible, and are asked for
 
 pub record IsStreamOf (options : Options) (streamed : Streamed) : Type 0 where
   pub asked : AsksStream options streamed
@@ -105,6 +105,6 @@ pub record IsCallOf (word : List ℕ) (options : Options) (clock : Option Stamp)
   pub asked : Asks word options clock what
   pub possible : CanBe what
 
--- the same of a word that is given with its options
+-- the same for a word that is given with its options
 abbrev pub IsCallBy : Option (List ℕ × Options) → Option Stamp → Call → Type 0
 IsCallBy given clock what = IsSomeAnd given (λ words. IsCallOf words.0 words.1 clock what)

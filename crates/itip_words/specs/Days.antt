@@ -9,24 +9,23 @@ use Rattle.itip_view.specs.declared.window.Window.{Window}
 abbrev pub numbered : Option Day → Option ℤ
 numbered day = option_map (λ (d : Day). d.number) day
 
--- a word is a date where it is given, and of this day
+-- a word is a date of this day, or neither is given
 abbrev pub IsGiven : Option (List ℕ) → Option ℤ → Type 0
 IsGiven None None = Unit {0}
 IsGiven None (Some day) = ⊥
 IsGiven (Some word) None = ⊥
 IsGiven (Some word) (Some day) = IsDateText word day
 
--- How many days before today there are rows, where neither end of a window is named. The flag tells that rows are asked for by
--- their DUE.
+-- How many days before today a window begins if neither of its ends is named. The flag says that rows are asked for by their DUE.
 abbrev pub days_back : Bool → ℕ
 days_back is_due = if is_due then 3290 else 366
 
--- how many days a window has, where one of its ends is named
+-- how many days a window has if one of its ends is named
 abbrev pub days_long : Bool → ℕ
 days_long is_due = if is_due then 3656 else 732
 
--- The first day of a window of which the first day and the day after the last are named or not: the one that is named, else
--- reckoned from the other, else from today.
+-- The first day of a window, whose first day and day after the last may each be named: the first day that is named, else reckoned
+-- from the day after the last, else from today.
 abbrev pub first_day : Bool → Option ℤ → Option ℤ → Option ℤ → Option ℤ
 first_day is_due (Some from) to today = Some from
 first_day is_due None (Some to) today = Some (to -ℤ pos (days_long is_due))
@@ -47,6 +46,6 @@ pub record IsAskedWindow (from to : Option (List ℕ)) (today : Option ℤ) (is_
   pub first : first_day is_due from_day to_day today ≡ Some window.from
   pub after : day_after is_due to_day from_day today ≡ Some window.to
 
--- the word for the day of today
+-- the word for today
 abbrev pub is_today : List ℕ → Bool
 is_today word = pointwise nat_eq word (codes "today")

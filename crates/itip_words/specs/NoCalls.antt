@@ -12,7 +12,7 @@ use Rattle.itip_words.specs.declared.no_call.NoCall.TheVariants as no_call
 abbrev pub IsHelp : ErrorKind → Type 0
 IsHelp kind = (kind ≡ DisplayHelp) ⊎ (kind ≡ DisplayVersion)
 
--- An error of `clap`, not one of memory, is told as help where it is of help, and else as that of words that are refused.
+-- An error of `clap`, other than out of memory, is told as help if it is of help, and else as that of words that are refused.
 abbrev pub IsToldOf : Error → NoCall → Type 0
 IsToldOf error (no_call.Help told) = (told ≡ error) × IsHelp (kind_of error)
 IsToldOf error (no_call.Refused told) = (IsHelp (kind_of error) → ⊥) × (kind_of error ≢ OutOfMemory)
@@ -20,7 +20,7 @@ IsToldOf error (no_call.BadValue text) = ⊥
 IsToldOf error no_call.NoClock = ⊥
 IsToldOf error no_call.NoMemory = ⊥
 
--- Why there is no call of words that `clap` takes: a value is bad, or there is no clock, and Nothing holds, or memory was refused.
+-- Why there is no call for words that `clap` takes: a value is bad or there is no clock, and Nothing holds; or an allocation failed.
 abbrev pub IsCause : Type 0 → Option Stamp → NoCall → Type 0
 IsCause Nothing clock (no_call.Help error) = ⊥
 IsCause Nothing clock (no_call.Refused error) = ⊥

@@ -6,14 +6,14 @@ use Rattle.clap.specs.Matches.{found_of}
 use Rattle.clap.specs.Walk.{Row, rows_of, first_of, all_of}
 use Rattle.clap.specs.declared.parser.matches.ArgMatches.{ArgMatches}
 
--- names of options, each with its values: those that stand in the words, or else those that it has by itself
+-- names of options, each with its values: those that are among the words, else its defaults
 abbrev pub Options : Type 0
 Options = List Row
 
 abbrev pub options_of : ArgMatches → Options
 options_of words = rows_of (found_of words)
 
--- the value of an option, of several the first
+-- the value of an option, or the first of several
 abbrev pub value_of : List ℕ → Options → Option (List ℕ)
 value_of name options = first_of name options
 
@@ -24,6 +24,6 @@ values_of name options = all_of name options
 abbrev pub is_true : List ℕ → Bool
 is_true value = pointwise nat_eq value (codes "true")
 
--- an option stands there that takes no value
+-- an option that takes no value is given
 abbrev pub is_set : List ℕ → Options → Bool
 is_set name options = option_map_or is_true (value_of name options) false

@@ -21,7 +21,7 @@ use Rattle.itip_words.specs.declared.words.Call.{Call}
 
 -- ---- options
 
--- a word with a value that stands by itself, of which there has to be one
+-- a required value that is given by itself
 abbrev pub positional : List ℕ → Rule
 positional name = record (new_rule name) { value_names = 1; required = true }
 
@@ -29,15 +29,15 @@ positional name = record (new_rule name) { value_names = 1; required = true }
 abbrev pub option : List ℕ → Rule
 option name = record (new_rule name) { long = Some name; value_names = 1 }
 
--- which has to be given
+-- the same, and it has to be given
 abbrev pub needed : Rule → Rule
 needed rule = record rule { required = true }
 
--- which may be given several times
+-- the same, and it may be given several times
 abbrev pub repeated : Rule → Rule
 repeated rule = record rule { action = Some Append }
 
--- which has this value where it isn't given
+-- the same, with this value if it isn't given
 abbrev pub otherwise : List ℕ → Rule → Rule
 otherwise value rule = record rule { defaults = value ∷ [] }
 
@@ -124,7 +124,7 @@ cancel_word = with_rules intake_rules (word_with (codes "cancel")
 
 -- ---- the program
 
--- the program, which needs a word
+-- the program without its words; it needs one
 abbrev pub no_word : App
 no_word = record (new_app (codes "itipdesk")) {
   top = record (new_app (codes "itipdesk")).top {
@@ -145,23 +145,23 @@ unfoldable pub program : App
 program = with_words
     (run_word ∷ office_word ∷ check_word ∷ compact_word ∷ list_word ∷ report_word ∷ news_word ∷ explain_word ∷ message_words) no_word
 
--- `clap` finds no fault with these words, the program's name before them, and they ask for the call, at the moment of a clock.
+-- `clap` finds no fault with these words, the first of which is the program's name, and they ask for the call, at the moment of a clock.
 pub record IsAskedBy (words : List (List ℕ)) (clock : Option Stamp) (what : Call) : Type 0 where
   pub faultless : fault_of program words ≡ []
   pub asked : IsAsked (subcommand_of program words) clock what
 
--- `clap` finds a fault with these words that isn't that help is asked for.
+-- `clap` finds a fault with these words other than that help is asked for.
 pub record AreRefused (words : List (List ℕ)) : Type 0 where
   pub kind : ErrorKind
   pub among : IsAmong kind (fault_of program words)
   pub no_help : IsHelp kind → ⊥
 
--- `clap` finds no fault with these words, and they ask for no call that there can be, at the moment of a clock.
+-- `clap` finds no fault with these words, and they ask for no possible call, at the moment of a clock.
 pub record AreBad (words : List (List ℕ)) (clock : Option Stamp) : Type 0 where
   pub faultless : fault_of program words ≡ []
   pub nothing : Never (IsCallBy (subcommand_of program words) clock)
 
--- Why nothing is run at these words, at the moment of a clock.
+-- Why nothing is run for these words, at the moment of a clock.
 abbrev pub IsNoCall : List (List ℕ) → Option Stamp → NoCall → Type 0
 IsNoCall words clock (no_call.Help error) = IsHelp (kind_of error) × IsAmong (kind_of error) (fault_of program words)
 IsNoCall words clock (no_call.Refused error) = AreRefused words

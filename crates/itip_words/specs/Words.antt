@@ -5,7 +5,7 @@ use Rattle.itip_script.specs.Orders.{number_of}
 use Rattle.itip_moment.specs.Spelling.{IsDateText}
 use Rattle.itip_view.specs.declared.window.Window.{Window}
 
--- there can be so many desks
+-- there can be this many desks
 pub record AreDesks (desks : ℕ) : Type 0 where
   pub some : 1 ≤ desks
   pub few : desks ≤ 16
@@ -28,7 +28,7 @@ pub record IsScriptedOf (desks from to : List ℕ) (count : ℕ) (window : Windo
   pub number : desks_of desks ≡ Some count
   pub days : IsWindowOf from to window
 
--- there can be so many workers
+-- there can be this many workers
 pub record AreWorkers (workers : ℕ) : Type 0 where
   pub some : 1 ≤ workers
   pub few : workers ≤ 8
@@ -41,7 +41,7 @@ are_workers workers = nat_le 1 workers && nat_le workers 8
 abbrev pub workers_of : List ℕ → Option ℕ
 workers_of text = option_and_then (λ workers. if are_workers workers then Some workers else None) (number_of text)
 
--- so many threads can read messages
+-- this many threads can read messages
 pub record AreThreads (threads : ℕ) : Type 0 where
   pub some : 1 ≤ threads
   pub few : threads ≤ 8

@@ -79,7 +79,7 @@ impl Asked {
         }
     }
 
-    /// What is to be written, of a draft with these to-dos where it is a request.
+    /// What is to be written. A request is of the to-dos of `draft`.
     pub fn errand<'a>(&'a self, draft: &'a [Todo]) -> Errand<'a>
         ensures { IsErrandOf self.now draft.now result }
     {
@@ -130,7 +130,7 @@ impl Asked {
     }
 }
 
-/// The message that a word asks for. `None` where a value is bad.
+/// The message that a word asks for. `None` if a value is bad.
 pub(crate) fn asked_of(
     alloc: Global,
     word: &str,
@@ -164,7 +164,7 @@ fn request_of(alloc: Global, words: &ArgMatches<'_>) -> Result<Option<Asked>, Al
     Ok(Some(Asked::Request { draft }))
 }
 
-/// The message that a word asks for about a to-do, or an instance of it.
+/// The message that a word asks for about a to-do, or an instance of it. `None` if a value is bad.
 fn asked_about(
     alloc: Global,
     word: &str,
@@ -253,7 +253,7 @@ fn cancel_of(
     Ok(Some(Asked::Remove { uid, id, attendees }))
 }
 
-/// The cancellation of an instance and all after it. `None` where attendees are named, or no instance.
+/// The cancellation of an instance and all after it. `None` if attendees are named, or no instance is.
 fn onward_of(words: &ArgMatches<'_>, uid: Uid, id: Option<Moment>) -> Option<Asked>
     requires about { AsksAbout (options_of words.now) uid id }
     requires onward { is_set (codes "onward") (options_of words.now) ≡ true }
@@ -268,7 +268,7 @@ fn onward_of(words: &ArgMatches<'_>, uid: Uid, id: Option<Moment>) -> Option<Ask
     }
 }
 
-/// The UID that is named.
+/// The UID that is named, if one is.
 pub(crate) fn asked_uid(alloc: Global, words: &ArgMatches<'_>) -> Result<Option<Uid>, AllocError>
     ensures { IfOk result (λ found. value_of (codes "uid") (options_of words.now) ≡ found) }
 {
@@ -278,7 +278,7 @@ pub(crate) fn asked_uid(alloc: Global, words: &ArgMatches<'_>) -> Result<Option<
     }
 }
 
-/// The address of a word, where it is given.
+/// The address that a word stands for, if it is given.
 pub(crate) fn asked_attendee(
     alloc: Global,
     word: Option<&str>,
@@ -291,7 +291,7 @@ pub(crate) fn asked_attendee(
     }
 }
 
-/// The instance that a word names, where it is given. `None` where the word is no moment.
+/// The instance that a word names, if it is given. `None` if the word is no moment.
 fn asked_id(alloc: Global, word: Option<&str>) -> Result<Option<Option<Moment>>, AllocError>
     ensures { IfOk result (Finds (IsRead IsMomentName (option_copied word.entry))) }
 {
@@ -312,7 +312,7 @@ fn asked_answer(words: &ArgMatches<'_>) -> Option<PartStat>
     answer_named(text)
 }
 
-/// The percentage of a word, where it is given. `None` where the word is none.
+/// The percentage of a word, if it is given. `None` if the word is no percentage.
 fn asked_percent(word: Option<&str>) -> Option<Option<u8>>
     ensures { Finds (IsRead IsPercent (option_copied word.entry)) result }
 {

@@ -12,10 +12,10 @@ use std::alloc::{AllocError, Global};
 // The greatest percentage.
 const MAX_PERCENT: u64 = 100;
 
-// How long the end of a zoned moment is: `:` and a local time, as `:20260105T090000`.
+// The length of the end of a zoned moment: `:` and a local time, as `:20260105T090000`.
 const END: usize = 16;
 
-/// The moment that a text names: a date, a local time, a UTC time, or `TZID=ZONE:` and a local time. `None` of any other text.
+/// The moment that a text names: a date, a local time, a UTC time, or `TZID=ZONE:` and a local time. `None` for any other text.
 pub(crate) fn named_moment(alloc: Global, text: &str) -> Result<Option<Moment>, AllocError>
     ensures found { IfOk result (λ found. IfSome found (IsMomentName text.now)) }
     ensures none { IfOk result (λ found. IfNone found ((moment : Moment) → IsMomentName text.now moment → ⊥)) }
@@ -26,7 +26,7 @@ pub(crate) fn named_moment(alloc: Global, text: &str) -> Result<Option<Moment>, 
     }
 }
 
-/// The moment of `TZID=ZONE:` and a local time. `None` of any other text.
+/// The moment of `TZID=ZONE:` and a local time. `None` for any other text.
 fn zoned_moment(alloc: Global, text: &str) -> Result<Option<Moment>, AllocError>
     ensures found { IfOk result (λ found. IfSome found (IsZonedName text.now)) }
     ensures none { IfOk result (λ found. IfNone found ((moment : Moment) → IsZonedName text.now moment → ⊥)) }
@@ -37,7 +37,7 @@ fn zoned_moment(alloc: Global, text: &str) -> Result<Option<Moment>, AllocError>
     }
 }
 
-/// A local time in a zone. `None` of any other text, and where the zone has no name.
+/// A local time in a zone. `None` for any other text, and if the zone has no name.
 fn time_in(alloc: Global, zone: &str, time: &str) -> Result<Option<Moment>, AllocError>
     ensures found { IfOk result (λ found. IfSome found (IsTimeIn zone.now time.now)) }
     ensures none { IfOk result (λ found. IfNone found ((moment : Moment) → IsTimeIn zone.now time.now moment → ⊥)) }
@@ -48,7 +48,7 @@ fn time_in(alloc: Global, zone: &str, time: &str) -> Result<Option<Moment>, Allo
     }
 }
 
-/// A moment that is in a zone.
+/// The moment, if it is in a zone.
 fn if_zoned(moment: Moment) -> Option<Moment>
     ensures { result ≡ if_zoned moment }
 {
@@ -58,7 +58,7 @@ fn if_zoned(moment: Moment) -> Option<Moment>
     }
 }
 
-/// The zone and the time of a text that is `TZID=ZONE:` and fifteen octets, as many as a local time has.
+/// The zone and the time of a text that is `TZID=ZONE:` and fifteen bytes, as many as a local time has.
 fn zone_and_time(text: &str) -> Option<(&str, &str)>
     ensures { MatchOption result ((zone time : List ℕ) → length time ≡ 15 → text.now ≢ zoned_text zone time)
         (λ parts. (text.now ≡ zoned_text parts.0.now parts.1.now) × (length parts.1.now ≡ 15)) }
@@ -69,7 +69,7 @@ fn zone_and_time(text: &str) -> Option<(&str, &str)>
     Some((zone, time))
 }
 
-/// A decimal number from 0 to 100.
+/// A decimal number from 0 to 100. `None` for any other text.
 pub(crate) fn percent_of(text: &str) -> Option<u8>
     ensures { result ≡ percent_of text.now }
 {
@@ -80,7 +80,7 @@ pub(crate) fn percent_of(text: &str) -> Option<u8>
     Some(percent as u8)
 }
 
-/// The participation of this name in upper case that an attendee can answer: any but DELEGATED.
+/// The participation that an attendee can answer, by its name in upper case: any but DELEGATED. `None` for any other text.
 pub(crate) fn answer_named(name: &str) -> Option<PartStat>
     ensures answer { result ≡ answer_named name.now }
     ensures spelled { IfSome result (λ status. name.now ≡ partstat_text status) }

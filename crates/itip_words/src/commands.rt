@@ -1,4 +1,4 @@
-//! The words that there are, each with its help.
+//! The words of the program, each with its help.
 ghost use Rattle.std.specs.Prelude.{IfOk, codes, false, [], ◌∷◌};
 ghost use Rattle.itip_words.specs.Program.{program, no_word, with_words, with_rules, message_words, IsRule, IsWord};
 ghost use Rattle.itip_words.specs.Program.{run_word, office_word, check_word, compact_word, list_word, report_word, news_word};
@@ -15,8 +15,8 @@ use clap::{Arg, ArgAction, Command};
 use itip_writing::VERSION;
 use std::alloc::{AllocError, Global};
 
-// No option has a rule on another, since `clap` says which words it refuses only of a command without such rules: what `--load` and
-// `--onward` need beside them is told in words.rt and asked.rt.
+// No option has a rule on another, as `clap` says which words it refuses only for a command without such rules. What `--load` and
+// `--onward` need besides is checked in words.rt and asked.rt, and told in wrong.rt.
 
 /// The program, with its words.
 pub(crate) fn command<'a>(alloc: Global) -> Result<Command<'a>, AllocError>
@@ -40,10 +40,10 @@ fn bare_program<'a>(alloc: Global) -> Result<Command<'a>, AllocError>
     Ok(program)
 }
 
-// A command and an option have some forty fields each, and a proof goes through all of them at each step and at each `?` that lets go of
+// A command and an option have some forty fields each, and a proof goes through all of them at each step and at each `?` that drops
 // one. So an option is made in a function of its own, and what is added to a command is added to a `Result` of it: a chain has no `?`.
 
-/// A program with one word more, if there was memory for both.
+/// Adds a word to a program. An error of either is returned.
 fn with_word<'a>(
     command: Result<Command<'a>, AllocError>,
     word: Result<Command<'a>, AllocError>,
@@ -53,7 +53,7 @@ fn with_word<'a>(
     add_word(command?, word)
 }
 
-/// The same, of a program that there was memory for.
+/// Adds a word to a program. An error of the word is returned.
 fn add_word<'a>(
     command: Command<'a>,
     word: Result<Command<'a>, AllocError>,
@@ -63,7 +63,7 @@ fn add_word<'a>(
     command.subcommand(word?)
 }
 
-/// A word with one option more, if there was memory for the word.
+/// Adds an option to a word. An error of the word is returned.
 fn with_arg<'a>(
     command: Result<Command<'a>, AllocError>,
     arg: Arg<'a>,
@@ -73,7 +73,7 @@ fn with_arg<'a>(
     command?.arg(arg)
 }
 
-/// A program with the words that read standard input alone.
+/// Adds the words that take no sources, and read standard input.
 fn with_input<'a>(
     alloc: Global,
     command: Result<Command<'a>, AllocError>,
@@ -85,7 +85,7 @@ fn with_input<'a>(
     with_word(command, check_command(alloc))
 }
 
-/// A program with the words that tell what the messages of their sources come to.
+/// Adds the words that write what the messages of their sources come to.
 fn with_sources<'a>(
     alloc: Global,
     command: Result<Command<'a>, AllocError>,
@@ -99,7 +99,7 @@ fn with_sources<'a>(
     with_word(command, explain_command(alloc))
 }
 
-/// A program with the words that write a message.
+/// Adds the words that write a message.
 fn with_messages<'a>(
     alloc: Global,
     command: Result<Command<'a>, AllocError>,
@@ -113,7 +113,7 @@ fn with_messages<'a>(
     with_word(command, cancel_command(alloc))
 }
 
-/// A word that has no options yet, with what its help says above and below them.
+/// A word without options, with what its help says above and below them.
 fn plain_command<'a>(alloc: Global, name: &'a str, about: &'a str, below: &'a str) -> Command<'a>
     ensures { IsWord (new_app name.entry.now) result }
 {
@@ -309,7 +309,7 @@ fn cancel_command<'a>(alloc: Global) -> Result<Command<'a>, AllocError>
     intake_words(alloc, cancel)
 }
 
-/// An option that is a value alone, and has to be there.
+/// A required option that is a value alone.
 fn positional_word<'a>(alloc: Global, name: &'a str, value: &'a str, help: &'a str) -> Arg<'a>
     ensures { IsRule (positional name.entry.now) result }
 {
@@ -329,7 +329,7 @@ fn option_word<'a>(alloc: Global, name: &'a str, value: &'a str, help: &'a str) 
         .help(help)
 }
 
-/// An option without one.
+/// An option without a value.
 fn flag_word<'a>(alloc: Global, name: &'a str, help: &'a str) -> Arg<'a>
     ensures { IsRule (flag name.entry.now) result }
 {
@@ -505,7 +505,7 @@ fn why_word<'a>(alloc: Global) -> Arg<'a>
     )
 }
 
-/// A word with the days of a window.
+/// Adds to a word the days of a window.
 fn days<'a>(
     alloc: Global,
     command: Result<Command<'a>, AllocError>,
@@ -534,7 +534,7 @@ fn to_word<'a>(alloc: Global) -> Arg<'a>
     .required(true)
 }
 
-/// A word with the days of a window, which need not be given.
+/// Adds to a word the days of a window, which need not be given, and the day that is taken as today.
 fn days_around_today<'a>(
     alloc: Global,
     command: Result<Command<'a>, AllocError>,
@@ -579,7 +579,7 @@ fn today_word<'a>(alloc: Global) -> Arg<'a>
     )
 }
 
-/// A word with the options for which rows are shown, and how.
+/// Adds to a word the options for which rows are shown, and how.
 fn row_words<'a>(
     alloc: Global,
     command: Result<Command<'a>, AllocError>,
@@ -636,7 +636,7 @@ fn format_word<'a>(alloc: Global) -> Arg<'a>
     .default_value("text")
 }
 
-/// A word with its sources, and the options for how they are read.
+/// Adds to a word its sources, and the options for how they are read.
 fn intake_words<'a>(
     alloc: Global,
     command: Result<Command<'a>, AllocError>,

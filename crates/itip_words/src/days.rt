@@ -18,16 +18,16 @@ const SECONDS_OF_DAY: u64 = 86_400;
 // 9999-12-31
 const LAST_DAY: u64 = 2_932_896;
 
-// How many days before and after today there are rows, where neither end of a window is named.
+// How many days before and after today a window goes if neither of its ends is named, and rows are not asked for by their DUE.
 const DAYS_AROUND: i32 = 366;
 
-/// The moment of a clock, in UTC. `None` where it can't be read, or has a time before 1970 or after the year 9999.
+/// The moment of a clock, in UTC. `None` if it can't be read, or shows a time before 1970 or after the year 9999.
 pub fn now(clock: &impl Clock) -> Option<Stamp> {
     let now = SystemTime::now(clock).ok()?;
     stamp_of_seconds(now.duration_since(UNIX_EPOCH).ok()?.as_secs())
 }
 
-/// The stamp of a second, counted from the beginning of 1970-01-01; `None` after the year 9999.
+/// The stamp of a second, counted from the beginning of 1970-01-01. `None` after the year 9999.
 fn stamp_of_seconds(seconds: u64) -> Option<Stamp>
     ensures day { IfSome result (λ stamp. stamp.day ≡ pos (seconds / 86_400)) }
     ensures second { IfSome result (λ stamp. stamp.second ≡ seconds % 86_400) }
@@ -50,7 +50,7 @@ fn day_of(stamp: Stamp) -> Day
     Day { number: stamp.day }
 }
 
-/// The day that is taken for today: that of a word, where it is given, else that of the clock. `None` where the word is no date.
+/// The day that is taken as today: that of the word if it is given, else that of the clock. `None` if the word is no date.
 pub(crate) fn today_of(word: Option<&str>, clock: Option<Stamp>) -> Option<Option<Day>>
     ensures found { IfSome result (λ today. IsToday (option_copied word.entry) clock (numbered today)) }
     ensures none { IfNone result (Never (IsToday (option_copied word.entry) clock)) }
@@ -71,7 +71,7 @@ fn clock_day(clock: Option<Stamp>) -> Option<Day>
     }
 }
 
-/// The day of a word, where the word is given. `None` where it is no date.
+/// The day of a word, if the word is given. `None` if it is no date.
 fn given_day(word: Option<&str>) -> Option<Option<Day>>
     ensures found { IfSome result (λ day. IsGiven (option_copied word.entry) (numbered day)) }
     ensures none { IfNone result ((day : Option ℤ) → IsGiven (option_copied word.entry) day → ⊥) }
@@ -83,9 +83,9 @@ fn given_day(word: Option<&str>) -> Option<Option<Day>>
     Some(Some(day))
 }
 
-/// The window that is asked for by the words for its first day and for the day after its last, as far as they are given: the
-/// other end is reckoned from the one, and both from today. `is_due` tells that rows are asked for by their DUE, which begins
-/// earlier. `None` where a word is no date, where there is no such window, and where today is not known but counts.
+/// The window that the words for its first day and for the day after its last ask for. If one of them is absent, its end is
+/// reckoned from the other; if both are, from today. With `is_due` rows are asked for by their DUE, and the window begins earlier.
+/// `None` if a word is no date, if there is no such window, or if it depends on today and today isn't known.
 pub(crate) fn asked_window(
     from: Option<&str>,
     to: Option<&str>,
@@ -123,7 +123,7 @@ fn day_after(is_due: bool, to: Option<Day>, from: Option<Day>, today: Option<Day
     }
 }
 
-/// How many days before today a window begins, where neither of its ends is named.
+/// How many days before today a window begins if neither of its ends is named.
 fn days_back(is_due: bool) -> i32
     ensures days { result ≡ pos (days_back is_due) }
     ensures low { pos 0 ≤ℤ result }
@@ -132,7 +132,7 @@ fn days_back(is_due: bool) -> i32
     if is_due { 3_290 } else { DAYS_AROUND }
 }
 
-/// How many days a window has, where one of its ends is named.
+/// How many days a window has if one of its ends is named.
 fn days_long(is_due: bool) -> i32
     ensures days { result ≡ pos (days_long is_due) }
     ensures low { pos 0 ≤ℤ result }
@@ -141,7 +141,7 @@ fn days_long(is_due: bool) -> i32
     if is_due { 3_656 } else { 732 }
 }
 
-/// The day of a word that is a date, or `today`.
+/// The day of a word that is a date, or `today`. `None` if it is neither, or if today isn't known.
 pub(crate) fn due_day(word: &str, today: Option<Day>) -> Option<Day>
     ensures { MatchBool (is_today word.now) (result ≡ today)
         (MatchOption result ((day : ℤ) → IsDateText word.now day → ⊥) (λ day. IsDateText word.now day.number)) }
@@ -153,7 +153,7 @@ pub(crate) fn due_day(word: &str, today: Option<Day>) -> Option<Day>
     }
 }
 
-/// Whether a word stands for the day of today.
+/// Whether a word stands for today.
 pub(crate) fn is_today(word: &str) -> bool
     ensures { result ≡ is_today word.now }
 {

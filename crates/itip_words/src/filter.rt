@@ -41,13 +41,13 @@ pub struct Filter {
 /// What is written of messages.
 #[derive(Drop)]
 pub enum Written {
-    /// The octets of what is kept: in place of the file of this name, or to standard output.
+    /// The bytes of what is kept: in place of the file of this name, or to standard output.
     Compaction { output: Option<String> },
     /// The task list.
     List(Listing),
     /// A report.
     Report(Reported),
-    /// The octets of what the sources of these words lack.
+    /// The bytes of what the sources of these words lack.
     News { than: Vec<String> },
     /// What is told of a to-do, and what came of it.
     Explanation { uid: Uid },
@@ -58,12 +58,11 @@ pub enum Written {
 /// How the messages are read.
 #[derive(Drop)]
 pub struct Intake {
-    /// The words that name the sources. Where no word does, there is `-`, for standard input, or no source beside a draft that is
-    /// read from there.
+    /// The words that name the sources. If none does, this is `-`, for standard input, or nothing if a draft is read from there.
     pub sources: Vec<String>,
-    /// 1 to 8, or as many as there are processors, where it is absent.
+    /// 1 to 8; if absent, as many as there are processors, at most 8.
     pub threads: Option<u64>,
-    /// Whether the progress is shown also where standard error is no terminal.
+    /// Whether progress is shown even if standard error is no terminal.
     pub progress: bool,
     /// Whether standard error says where and why something was refused.
     pub why: bool,
@@ -73,11 +72,11 @@ pub struct Intake {
 #[derive(Drop)]
 pub struct Listing {
     pub window: Window,
-    /// The address that the rows show, where it matters.
+    /// The address that rows have to show, if one is given.
     pub attendee: Option<String>,
     /// Whether only open rows are written.
     pub is_open: bool,
-    /// The day that the rows are due before, where it matters.
+    /// The day that rows have to be due before, in days from 1970-01-01, if one is given.
     pub due_before: Option<i32>,
     pub format: Format,
 }
@@ -91,7 +90,7 @@ pub enum Format {
     Csv,
     /// JSON objects, for other programs.
     Json,
-    /// One page in HTML, with the day that is taken for today.
+    /// One page in HTML, with the day that is taken as today.
     Html(Day),
 }
 
@@ -99,7 +98,7 @@ pub enum Format {
 #[derive(Clone, Copy)]
 pub struct Reported {
     pub name: ReportName,
-    /// The days of the rows that it tells of, where it is of rows.
+    /// The days of the rows that it tells of, if it is of rows.
     pub window: Window,
 }
 
@@ -131,7 +130,7 @@ impl Written {
 }
 
 impl Filter {
-    /// Whether standard input is read once at most.
+    /// Whether standard input is read at most once.
     fn reads_input_once(&self) -> bool
         ensures { result ≡ reads_input_once self.now }
     {
@@ -159,7 +158,7 @@ impl Listing {
     }
 }
 
-/// The filter that a word asks for, at the moment of a clock; `None` where a value is bad.
+/// The filter that a word asks for, at the moment of a clock. `None` if a value is bad.
 pub(crate) fn filter_of(
     alloc: Global,
     word: &str,
@@ -178,7 +177,7 @@ pub(crate) fn filter_of(
     Ok(Some(if_input_once(alloc, Filter { intake, written })?))
 }
 
-/// A filter, where standard input is read once at most.
+/// Returns the filter if it reads standard input at most once, else [`NoCall::BadValue`].
 fn if_input_once(alloc: Global, filter: Filter) -> Result<Filter, NoCall>
     ensures same { IfOk result (λ same. same ≡ filter) }
     ensures once { IfOk result (λ same. IsTrue (reads_input_once same)) }
@@ -227,7 +226,7 @@ fn compaction_of(alloc: Global, words: &ArgMatches<'_>) -> Result<Option<Written
     Ok(Some(Written::Compaction { output }))
 }
 
-/// The name of the file that is written; none where it is `-`, for standard output.
+/// The name of the file that is written. `None` if it is `-`, for standard output, or absent.
 fn file_named(alloc: Global, name: Option<&str>) -> Result<Option<String>, AllocError>
     ensures { IfOk result (λ file. option_map string_bytes file ≡ file_named (option_copied name.entry)) }
 {
@@ -258,7 +257,7 @@ fn list_of(
     }
 }
 
-/// The list that is asked for, on the day that is taken for today.
+/// The list that is asked for, on the day that is taken as today. `None` if a value is bad.
 fn listing_of(
     alloc: Global,
     words: &ArgMatches<'_>,
@@ -305,7 +304,7 @@ fn report_of(words: &ArgMatches<'_>, clock: Option<Stamp>) -> Result<Option<Writ
     }
 }
 
-/// The report that is asked for, on the day that is taken for today.
+/// The report that is asked for, on the day that is taken as today. `None` if a value is bad.
 fn reported_of(words: &ArgMatches<'_>, clock: Option<Stamp>, today: Option<Day>) -> Option<Reported>
     requires { IsToday (value_of (codes "today") (options_of words.now)) clock (numbered today) }
     ensures { Finds (AsksReport (options_of words.now) clock) result }
@@ -315,7 +314,7 @@ fn reported_of(words: &ArgMatches<'_>, clock: Option<Stamp>, today: Option<Day>)
     Some(Reported { name, window })
 }
 
-/// The report that is named, where the words for days are none that it doesn't take.
+/// The report that is named. `None` if none is, or if it takes no days and words name some.
 fn asked_report(words: &ArgMatches<'_>) -> Option<ReportName>
     ensures { Finds (IsReportNamed (options_of words.now)) result }
 {
@@ -330,7 +329,7 @@ fn asked_report(words: &ArgMatches<'_>) -> Option<ReportName>
     Some(name)
 }
 
-/// Whether words name days, or the day that is taken for today.
+/// Whether words name days, or the day that is taken as today.
 fn names_days(words: &ArgMatches<'_>) -> bool
     ensures { result ≡ names_days (options_of words.now) }
 {
@@ -376,9 +375,9 @@ fn message_of(
     }
 }
 
-/// The moment of writing: that of `--at`, else that of the clock. `None` where the word is no date-time in UTC.
+/// The moment of writing: that of `--at`, else that of the clock. `None` if the word is no date-time in UTC.
 ///
-/// [`NoCall::NoClock`] where neither is there.
+/// Returns [`NoCall::NoClock`] if there is neither.
 fn writing_time(word: Option<&str>, clock: Option<Stamp>) -> Result<Option<Stamp>, NoCall>
     ensures found { IfOk result (Finds (IsWritingTime (option_copied word.entry) clock)) }
     ensures fault { IfErr result (IsCause (Never (IsWritingTime (option_copied word.entry) clock)) clock) }
@@ -390,9 +389,9 @@ fn writing_time(word: Option<&str>, clock: Option<Stamp>) -> Result<Option<Stamp
     }
 }
 
-/// The day that is taken for today: that of `--today`, else that of the clock. `None` where the word is no date.
+/// The day that is taken as today: that of `--today`, else that of the clock. `None` if the word is no date.
 ///
-/// [`NoCall::NoClock`] where neither is there, and something goes by it.
+/// Returns [`NoCall::NoClock`] if there is neither and something depends on it.
 fn asked_today(
     words: &ArgMatches<'_>,
     clock: Option<Stamp>,
@@ -416,7 +415,7 @@ fn asked_today(
     }
 }
 
-/// Whether rows go by the day that is taken for today.
+/// Whether the rows, or how they are written, depend on the day that is taken as today.
 fn needs_today(words: &ArgMatches<'_>) -> bool
     ensures { result ≡ needs_today (options_of words.now) }
 {
@@ -457,7 +456,7 @@ fn window_in(words: &ArgMatches<'_>, today: Option<Day>, is_due: bool) -> Option
     asked_window(from, to, today, is_due)
 }
 
-/// The day that rows are due before, where it is named. `None` where the word is no day.
+/// The day that rows are due before, if it is named. `None` if the word is no day.
 fn asked_due(word: Option<&str>, today: Option<Day>) -> Option<Option<i32>>
     ensures { Finds (IsRead (IsDueDay (numbered today)) (option_copied word.entry)) result }
 {
@@ -475,7 +474,7 @@ fn asked_format(words: &ArgMatches<'_>, today: Option<Day>) -> Option<Format>
     format_named(text, today)
 }
 
-/// The form of a name. `None` of any other text, and of a page where today isn't known.
+/// The format of this name. `None` for any other text, and for a page if today isn't known.
 fn format_named(text: &str, today: Option<Day>) -> Option<Format>
     ensures { Finds (IsFormatNamed (numbered today) text.now) result }
 {
@@ -526,7 +525,7 @@ fn intake_of(alloc: Global, words: &ArgMatches<'_>) -> Result<Option<Intake>, Al
     }))
 }
 
-/// The number of threads, where it is given. `None` where the word is none.
+/// The number of threads, if it is given. `None` if the word is no such number.
 fn asked_threads(word: Option<&str>) -> Option<Option<u64>>
     ensures few { IfSome result (λ threads. IfSome threads AreThreads) }
     ensures asked { Finds (IsRead AreThreadsOf (option_copied word.entry)) result }
@@ -545,7 +544,7 @@ pub(crate) fn threads_of(text: &str) -> Option<u64>
     read_number(text.as_bytes()).filter(|threads| (1..=MAX_THREADS).contains(threads))
 }
 
-/// The words that name sources. Where there is none, it is standard input, if no draft is read from there.
+/// The words that name sources. If there are none, it is standard input, unless a draft is read from there.
 fn asked_sources(alloc: Global, words: &ArgMatches<'_>) -> Result<Vec<String>, AllocError>
     ensures { IfOk result (λ sources. map string_bytes sources.items ≡ sources_of (options_of words.now)) }
 {

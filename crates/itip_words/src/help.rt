@@ -74,7 +74,7 @@ Exit status:
   2  the words or the window are bad
   3  a read or a write failed, there was no memory, or no thread could be made";
 
-/// What is read and written where messages are compacted.
+/// What is read and written when messages are compacted.
 pub(crate) const COMPACT_HELP: &str =
     "Sources are files, folders, which stand for the .ics files in them, and - for standard input; without one standard input
 is read. All their messages are heard, in whatever order. One that is refused is not heard; it is named on standard error, as
@@ -91,7 +91,7 @@ Exit status:
   2  the words are bad
   3  a read or a write failed, or there was no memory";
 
-/// What is read and written where the task list of messages is made.
+/// What is read and written when the task list of messages is made.
 pub(crate) const LIST_HELP: &str =
     "Sources are files, folders, which stand for the .ics files in them, and - for standard input; without one standard input
 is read. All their messages are heard, in whatever order. One that is refused is not heard; it is named on standard error, as
@@ -121,7 +121,7 @@ Exit status:
   2  the words or the window are bad
   3  a read or a write failed, there was no memory, or the clock can't be read";
 
-/// What is read and written where a report of messages is made.
+/// What is read and written when a report of messages is made.
 pub(crate) const REPORT_HELP: &str = "  load       how many rows show each attendee
   progress   how far each row is that has a progress
   cancelled  the to-dos, instances and ranges that are cancelled
@@ -144,7 +144,7 @@ Exit status:
   2  the words or the window are bad
   3  a read or a write failed, there was no memory, or the clock can't be read";
 
-/// What is read and written where messages are compared with others.
+/// What is read and written when messages are compared with others.
 pub(crate) const NEWS_HELP: &str =
     "Sources are files, folders, which stand for the .ics files in them, and - for standard input; without one beside --than
 standard input is read. A message that is refused is not heard; it is named on standard error, as `mail.ics message 3: refused 9`,
@@ -162,7 +162,7 @@ Exit status:
   2  the words are bad
   3  a read or a write failed, or there was no memory";
 
-/// What is read and written where a to-do is explained.
+/// What is read and written when a to-do is explained.
 pub(crate) const EXPLAIN_HELP: &str =
     "Sources are files, folders, which stand for the .ics files in them, and - for standard input; without one standard input
 is read. A message that is refused is not heard; it is named on standard error, as `mail.ics message 3: refused 9`, and with
@@ -184,7 +184,7 @@ Exit status:
   3  a read or a write failed, or there was no memory
   4  no message is about this to-do";
 
-/// What is read and written where a to-do is sent again.
+/// What is read and written when a to-do is sent again.
 pub(crate) const RESEND_HELP: &str =
     "Sources are files, folders, which stand for the .ics files in them, and - for standard input; without one standard input
 is read. A message that is refused is not heard; it is named on standard error, as `mail.ics message 3: refused 9`, and with
@@ -201,7 +201,7 @@ Exit status:
   3  a read or a write failed, there was no memory, or the clock can't be read
   4  the to-do isn't known, or it is cancelled: nothing is written";
 
-/// What is read and written where to-dos are requested.
+/// What is read and written when to-dos are requested.
 pub(crate) const REQUEST_HELP: &str =
     "A draft is a file as a REQUEST is, VERSION included. Its METHOD, DTSTAMP and SEQUENCE don't matter and may be absent: written
 are METHOD:REQUEST, the moment of writing, and for each to-do the SEQUENCE after all that its sources tell, or 0 for a new one.
@@ -222,7 +222,7 @@ Exit status:
   3  a read or a write failed, there was no memory, or the clock can't be read
   4  the draft can't be sent, for the cause on standard error: nothing is written";
 
-/// What is read and written where an attendee answers.
+/// What is read and written when an attendee answers.
 pub(crate) const REPLY_HELP: &str =
     "Sources are files, folders, which stand for the .ics files in them, and - for standard input; without one standard input
 is read. A message that is refused is not heard; it is named on standard error, as `mail.ics message 3: refused 9`, and with
@@ -241,7 +241,7 @@ Exit status:
   3  a read or a write failed, there was no memory, or the clock can't be read
   4  there is nothing to answer, for the cause on standard error: nothing is written";
 
-/// What is read and written where an attendee wants to be sent a to-do again.
+/// What is read and written when an attendee wants to be sent a to-do again.
 pub(crate) const REFRESH_HELP: &str =
     "Sources are files, folders, which stand for the .ics files in them, and - for standard input; without one standard input
 is read. A message that is refused is not heard; it is named on standard error, as `mail.ics message 3: refused 9`, and with
@@ -259,7 +259,7 @@ Exit status:
   3  a read or a write failed, there was no memory, or the clock can't be read
   4  there is nothing to ask for, for the cause on standard error: nothing is written";
 
-/// What is read and written where something is cancelled.
+/// What is read and written when something is cancelled.
 pub(crate) const CANCEL_HELP: &str =
     "Sources are files, folders, which stand for the .ics files in them, and - for standard input; without one standard input
 is read. A message that is refused is not heard; it is named on standard error, as `mail.ics message 3: refused 9`, and with

@@ -14,9 +14,10 @@ use std::alloc::{AllocError, Global};
 pub enum NoCall {
     /// Help or the version was asked for; the error prints it.
     Help(Error),
-    /// The words are none of the program's; the error prints what is wrong with them.
+    /// `clap` doesn't take the words; the error prints what is wrong with them.
     Refused(Error),
-    /// A value is none that its word takes, or an option can't stand beside the others; this says which, in lines of its own.
+    /// A word doesn't take its value, an option lacks or excludes another, or standard input would be read twice; this says which, in
+    /// lines of its own.
     BadValue(String),
     /// What is asked for depends on the time, which the clock doesn't tell.
     NoClock,
@@ -31,7 +32,7 @@ impl From<AllocError> for NoCall {
     }
 }
 
-/// Why there is no call of words that `clap` doesn't take: it gave this error.
+/// Why there is no call for words for which `clap` returned this error.
 pub(crate) fn no_call(alloc: Global, words: &[String], error: Error) -> Result<NoCall, AllocError>
     ensures { IfOk result (IsToldOf error) }
 {
@@ -43,8 +44,8 @@ pub(crate) fn no_call(alloc: Global, words: &[String], error: Error) -> Result<N
     }
 }
 
-/// What is wrong with words that `clap` doesn't take. They are parsed once more with their control characters shown, so that no
-/// word can write a line of its own.
+/// What is wrong with words that `clap` doesn't take. They are parsed again with their control characters shown as their bytes, so
+/// that no word can write a line of its own.
 fn visible_error(alloc: Global, words: &[String], error: Error) -> Result<Error, AllocError> {
     let mut shown = Vec::new(alloc);
     for word in words {

@@ -13,14 +13,14 @@ pub(crate) fn word_of<'m, 'a>(matches: &'m ArgMatches<'a>) -> Option<(&'a str, &
     matches.subcommand()
 }
 
-/// The value of an option, of several the first; `None` where it has none.
+/// The value of an option, or the first of several. `None` if it has none.
 pub(crate) fn value_of<'a>(words: &ArgMatches<'a>, name: &str) -> Option<&'a str>
     ensures { option_copied result ≡ value_of name.now (options_of words.now) }
 {
     words.get_str(name)
 }
 
-/// All values of an option, where it has some.
+/// All values of an option. `None` if it has none.
 pub(crate) fn values_of<'m, 'a>(words: &'m ArgMatches<'a>, name: &str) -> Option<&'m [&'a str]>
     ensures { option_map (λ values. map (λ value. value.now) values.now) result ≡ values_of name.now (options_of words.now) }
 {
@@ -34,14 +34,14 @@ pub(crate) fn is_given(words: &ArgMatches<'_>, name: &str) -> bool
     value_of(words, name).is_some()
 }
 
-/// Whether an option has values that may be several.
+/// Whether an option that may have several values has any.
 pub(crate) fn has_values(words: &ArgMatches<'_>, name: &str) -> bool
     ensures { result ≡ is_some (values_of name.now (options_of words.now)) }
 {
     values_of(words, name).is_some()
 }
 
-/// Whether an option stands there that takes no value.
+/// Whether an option that takes no value is given.
 pub(crate) fn is_set(words: &ArgMatches<'_>, name: &str) -> bool
     ensures { result ≡ is_set name.now (options_of words.now) }
 {

@@ -20,14 +20,14 @@ pub struct Streamed {
     pub loads: Vec<Load>,
 }
 
-/// A desk that begins as a file has it.
+/// A desk that is loaded from a file.
 #[derive(Debug, Drop)]
 pub struct Load {
     pub desk: u64,
     pub file: String,
 }
 
-/// How the words have a stream served; `None` where a value is bad.
+/// How the words have a stream served. `None` if a value is bad.
 pub(crate) fn streamed_of(
     alloc: Global,
     words: &ArgMatches<'_>,
@@ -49,14 +49,14 @@ pub(crate) fn streamed_of(
     Ok(Some(Streamed { scripted, loads }))
 }
 
-/// What the words name for desks to begin with.
+/// The values of `--load`, each `D=FILE` if it is good.
 pub(crate) fn loads_named<'m, 'a>(words: &'m ArgMatches<'a>) -> &'m [&'a str]
     ensures { map (λ text. text.now) result.now ≡ unwrap_or (values_of (codes "load") (options_of words.now)) [] }
 {
     values_of(words, "load").unwrap_or_default()
 }
 
-/// The desk and the file that a word names, where there are so many desks and none of these was named before.
+/// The desk and the file that a word names. `None` if it is no `D=FILE`, if `D` isn't below `desks`, or if a load before is of `D`.
 pub(crate) fn next_load<'a>(text: &'a str, desks: u64, before: &[Load]) -> Option<(u64, &'a str)>
     ensures named { IfSome result (λ load. load_of text.now ≡ Some (load.0, load.1.now)) }
     ensures there { IfSome result (λ load. load.0 < desks) }
@@ -79,7 +79,7 @@ fn is_named(desk: u64, loads: &[Load]) -> bool
     loads.iter().any(|load| load.desk == desk)
 }
 
-/// The desk and the file of `D=FILE`.
+/// The desk and the file of `D=FILE`. `None` for any other text, and if the file has no name.
 fn load_of(text: &str) -> Option<(u64, &str)>
     ensures { option_map (λ load. (load.0, load.1.now)) result ≡ load_of text.now }
 {

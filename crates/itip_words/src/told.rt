@@ -1,4 +1,4 @@
-//! What is said of too many rows.
+//! What is said if there are too many rows.
 ghost use Rattle.std.specs.Prelude.{◌≡◌, IfOk};
 ghost use Rattle.std.specs.String.{string_bytes};
 ghost use Rattle.itip_streams.specs.Visible.{visible};
@@ -7,8 +7,8 @@ ghost use Rattle.itip_words.specs.Told.{most_of};
 use itip_streams::visible_text;
 use std::alloc::{AllocError, Global};
 
-/// The line that says which to-do has the most rows, of a list or a report that is refused under a number:
-/// `list: refused 31: 366 rows of u1, the most of one to-do`. Control characters are shown as their octets.
+/// The line, without its end, that says which to-do has the most rows of a list or a report that is refused with `number`:
+/// `list: refused 31: 366 rows of u1, the most of one to-do`. Control characters are shown as their bytes.
 pub fn most_line(
     alloc: Global,
     word: &str,

@@ -39,7 +39,7 @@ pub enum Call {
     Run(Scripted),
     /// A stream of commands is served.
     Stream(Streamed),
-    /// The jobs of a script are run, by so many workers.
+    /// The jobs of a script are run by `workers` workers, 1 to 8.
     Office { scripted: Scripted, workers: u64 },
     /// A message is read, and its items are shown.
     Check { why: bool },
@@ -47,7 +47,7 @@ pub enum Call {
     Filter(Filter),
 }
 
-/// How a script is run: with so many desks, and lists of the days of a window.
+/// How a script is run: with 1 to 16 desks, and lists of the days of a window.
 #[derive(Clone, Copy)]
 pub struct Scripted {
     pub desks: u64,
@@ -56,7 +56,8 @@ pub struct Scripted {
     pub why: bool,
 }
 
-/// Reads the words, the first of which is the program's name. `clock` is the present moment, where it is known.
+/// Reads the words, the first of which is the program's name. `clock` is the present moment, if it is known. The error says why
+/// nothing is run.
 pub fn read_words(alloc: Global, words: &[String], clock: Option<Stamp>) -> Result<Call, NoCall>
     ensures run { IfOk result (IfRun (λ scripted. AreDesks scripted.desks)) }
     ensures stream { IfOk result (IfStream AreStreamed) }
@@ -75,7 +76,7 @@ pub fn read_words(alloc: Global, words: &[String], clock: Option<Stamp>) -> Resu
     }
 }
 
-/// The call that the words ask for; `None` where a value is bad.
+/// The call that the words ask for. `None` if a value is bad.
 fn call_of(
     alloc: Global,
     matches: &ArgMatches<'_>,
@@ -90,7 +91,7 @@ fn call_of(
     }
 }
 
-/// The call of a word; `None` where a value is bad.
+/// The call of a word. `None` if a value is bad.
 fn named_call(
     alloc: Global,
     word: &str,
@@ -116,7 +117,7 @@ fn named_call(
     }
 }
 
-/// How the words have a script run, or a stream served.
+/// How the words have a script run, or a stream served. `None` if a value is bad.
 fn run_of(alloc: Global, words: &ArgMatches<'_>) -> Result<Option<Call>, AllocError>
     ensures { (clock : Option Stamp) → IfOk result (Finds (IsCallOf (codes "run") (options_of words.now) clock)) }
 {
@@ -129,7 +130,7 @@ fn run_of(alloc: Global, words: &ArgMatches<'_>) -> Result<Option<Call>, AllocEr
     }
 }
 
-/// How a script is run that is no stream. `None` where a value is bad, or a desk is to begin with a file.
+/// How a script that is no stream is run. `None` if a value is bad, or a desk is to be loaded from a file.
 fn script_of(words: &ArgMatches<'_>) -> Option<Scripted>
     ensures found { Finds (AsksRun (options_of words.now)) result }
     ensures desks { IfSome result (λ scripted. AreDesks scripted.desks) }
@@ -140,7 +141,7 @@ fn script_of(words: &ArgMatches<'_>) -> Option<Scripted>
     scripted_of(words)
 }
 
-/// How the words have the jobs of a script run. `None` where a value is bad.
+/// How the words have the jobs of a script run. `None` if a value is bad.
 pub(crate) fn office_of(words: &ArgMatches<'_>) -> Option<Call>
     ensures { (clock : Option Stamp) → Finds (IsCallOf (codes "office") (options_of words.now) clock) result }
 {
@@ -150,7 +151,7 @@ pub(crate) fn office_of(words: &ArgMatches<'_>) -> Option<Call>
     Some(Call::Office { scripted, workers })
 }
 
-/// How a script is run. `None` where a value is bad.
+/// How a script is run. `None` if a value is bad.
 pub(crate) fn scripted_of(words: &ArgMatches<'_>) -> Option<Scripted>
     ensures asked { IfSome result (AsksScript (options_of words.now)) }
     ensures none { IfNone result ((scripted : Scripted) → AsksScript (options_of words.now) scripted → ⊥) }
@@ -163,7 +164,7 @@ pub(crate) fn scripted_of(words: &ArgMatches<'_>) -> Option<Scripted>
     scripted_of_texts(desks, from, to, why)
 }
 
-/// What the values of the words ask for, where they are what they have to be.
+/// What the values of the words ask for. `None` if one is bad.
 fn scripted_of_texts(desks: &str, from: &str, to: &str, why: bool) -> Option<Scripted>
     ensures found { IfSome result (λ scripted. IsScriptedOf desks.now from.now to.now scripted.desks scripted.window) }
     ensures none { IfNone result ((count : ℕ) (window : Window) → IsScriptedOf desks.now from.now to.now count window → ⊥) }
@@ -175,7 +176,7 @@ fn scripted_of_texts(desks: &str, from: &str, to: &str, why: bool) -> Option<Scr
     Some(Scripted { desks, window, why })
 }
 
-/// The window from one date up to another, each spelled `YYYYMMDD`.
+/// The window from one date up to another, each spelled `YYYYMMDD`. `None` if one is no date, or there is no such window.
 pub(crate) fn window_of(from: &str, to: &str) -> Option<Window>
     ensures found { IfSome result (IsWindowOf from.now to.now) }
     ensures none { IfNone result ((window : Window) → IsWindowOf from.now to.now window → ⊥) }

@@ -1,5 +1,5 @@
-//! What is said of a value that its word doesn't take, of a word that can't stand beside others, and of standard input that is read
-//! twice, in the manner of `clap`.
+//! What is said, in the manner of `clap`, of a value that its word doesn't take, of an option that lacks or excludes another, and of
+//! standard input that would be read twice.
 use crate::asked_values::{answer_named, named_moment, percent_of};
 use crate::days::is_today;
 use crate::filter::{names_format, threads_of};
@@ -12,7 +12,7 @@ use itip_script::read_report_name;
 use itip_streams::visible_text;
 use std::alloc::{AllocError, Global};
 
-// Each word whose value is read here, how its usage shows it, and what a value is that it doesn't take.
+// Each option whose value is read here, how its usage shows it, and what is wrong with a value that it doesn't take.
 const VALUES: [(&str, &str, &str); 13] = [
     ("desks", "--desks <D>", "not a number from 1 to 16"),
     ("workers", "--workers <N>", "not a number from 1 to 8"),
@@ -53,8 +53,8 @@ const VALUES: [(&str, &str, &str); 13] = [
     ),
 ];
 
-/// What is wrong with words for which there is no call: the first that can't stand as it does beside the others, else the first bad
-/// value, with its control characters shown as their octets.
+/// What is wrong with words for which there is no call: the first option that lacks or excludes another, else the first bad value,
+/// with its control characters shown as their bytes.
 pub(crate) fn what_is_wrong(alloc: Global, matches: &ArgMatches<'_>) -> Result<String, AllocError> {
     let Some((_, words)) = matches.subcommand() else {
         return Ok(String::new(alloc));
@@ -68,7 +68,7 @@ pub(crate) fn what_is_wrong(alloc: Global, matches: &ArgMatches<'_>) -> Result<S
     }
 }
 
-/// What is wrong with the first of these words whose value is bad.
+/// What is wrong with the first of these options whose value is bad.
 fn wrong_value(
     alloc: Global,
     words: &ArgMatches<'_>,
@@ -93,7 +93,7 @@ fn wrong_beside(alloc: Global, words: &ArgMatches<'_>) -> Result<String, AllocEr
     wrong_days(alloc, words)
 }
 
-/// What is wrong where a word needs another that isn't there, or is there beside one that excludes it.
+/// What is wrong if an option needs another that isn't given, or can't be used with one that is.
 fn misplaced(words: &ArgMatches<'_>) -> Option<&'static str> {
     if has_values(words, "load") && !is_set(words, "stream") {
         return Some("the argument '--load <D=FILE>' needs '--stream'");
@@ -110,7 +110,7 @@ fn misplaced(words: &ArgMatches<'_>) -> Option<&'static str> {
     None
 }
 
-/// The first desk that can't begin with its file, where the number of desks is good.
+/// The first bad value of `--load`, if the number of desks is good.
 fn wrong_load<'a>(alloc: Global, words: &ArgMatches<'a>) -> Result<Option<&'a str>, AllocError> {
     let Some(desks) = words.get_str("desks").and_then(desks_of) else {
         return Ok(None);
@@ -128,7 +128,7 @@ fn wrong_load<'a>(alloc: Global, words: &ArgMatches<'a>) -> Result<Option<&'a st
     Ok(None)
 }
 
-/// The word takes this value.
+/// Whether the option takes this value.
 fn is_good(alloc: Global, id: &str, value: &str) -> Result<bool, AllocError> {
     match id {
         "id" => Ok(named_moment(alloc, value)?.is_some()),
@@ -139,7 +139,7 @@ fn is_good(alloc: Global, id: &str, value: &str) -> Result<bool, AllocError> {
     }
 }
 
-/// The same of the words that no message is written by.
+/// The same for the options that write no message.
 fn is_good_of_run(id: &str, value: &str) -> bool {
     match id {
         "desks" => desks_of(value).is_some(),
@@ -172,7 +172,7 @@ fn wrong_days(alloc: Global, words: &ArgMatches<'_>) -> Result<String, AllocErro
     }
 }
 
-/// What is said where standard input would be read more than once.
+/// What is said if standard input would be read more than once.
 pub(crate) fn input_read_twice(alloc: Global) -> Result<String, AllocError> {
     told(
         alloc,

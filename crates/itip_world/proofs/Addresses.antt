@@ -1,4 +1,4 @@
--- The address of an attendee is a text, so octets that are none show in no row.
+-- The address of an attendee is UTF-8, so no row shows one that isn't.
 use Rattle.std.proofs.Common.{◌≡◌, ◌∙◌, ℕ, suc, ◌+◌, ◌<◌, ◌≤◌, true, false, cond, nat_lt, List, [], ◌∷◌, ◌++◌, map, length, get_or, IsUtf8}
 use Rattle.std.proofs.Common.{◌⊎◌, inl, inr, refl, sym, ap, ap₂, subst, arith, append-nil, ltb-true}
 use Rattle.std.specs.List.{Contains, AllByRecursion}
@@ -60,7 +60,7 @@ first_same x y xs ys e = ap (λ (l : List ℕ). get_or l 0 0) e
 rest_same : (x y : ℕ) (xs ys : List ℕ) → x ∷ xs ≡ y ∷ ys → xs ≡ ys
 rest_same x y xs ys e = cc
 
--- octets of no ASCII character stand in what is in lower case as they stood before
+-- in lower case, bytes of no ASCII character are what they were before
 same_front : (xs rest bs : List ℕ) → ((k : ℕ) → k < length xs → 128 ≤ get_or xs k 0) → xs ++ rest ≡ map to_ascii_lowercase bs →
     (more : List ℕ) × (bs ≡ xs ++ more) × (rest ≡ map to_ascii_lowercase more)
 same_front [] rest bs high e = (bs, refl, e)
@@ -77,7 +77,7 @@ all_high c big k below = elim (cases_lt (get_or (encode c) k 0) 128) [
   | inr h ↦ h
 ]
 
--- what an ASCII character in lower case stood for
+-- what an ASCII character in lower case was before
 low_front : (c : ℕ) (rest bs : List ℕ) → c ∷ rest ≡ map to_ascii_lowercase bs → c < 128 → (b : ℕ) × (more : List ℕ) × (bs ≡ b ∷ more) ×
     (b < 128) × (rest ≡ map to_ascii_lowercase more)
 low_front c rest [] e small = absurd cc

@@ -39,7 +39,7 @@ same_length (h ∷ hs) [] are = absurd are
 same_length (h ∷ hs) (d ∷ ds) are = ap suc (same_length hs ds are.1)
 
 module _ (window : Window) (world : ShownWorld) where
-  -- a step after which all is as it was
+  -- a step that changes nothing
   abbrev Stays : Order → Answer → Type 0
   Stays order answer = (past : Past) → IsWorldOf past world → Step window past order answer past
 
@@ -136,7 +136,7 @@ module _ (window : Window) (world : ShownWorld) where
 
 -- ---- other answers
 
--- an answer is behind what is kept, and nothing was written
+-- an answer is appended to what is kept, and nothing was written
 pub replies_told : (window : Window) (order : Order) (world after : ShownWorld) (o : Option (List ℕ)) (kept rest : List ℕ)
     (answer : Answer) (why : Option RefusedAs) → Answers window order world answer after → IsTold answer kept rest why →
     Replies window order world after o o kept rest why

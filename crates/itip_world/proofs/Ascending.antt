@@ -18,7 +18,7 @@ contained_in [] y h = absurd h
 contained_in (x ∷ xs) y (inl e) = (0, omega arith, e)
 contained_in (x ∷ xs) y (inr h) = let at = contained_in xs y h in (suc at.0, omega (arith, at.1), at.2)
 
--- each element is less than those behind it, by recursion
+-- each element is less than those after it, by recursion
 abbrev pub Ascends : {X : Type 0} → (X → X → Type 0) → List X → Type 0
 Ascends R [] = Unit {0}
 Ascends R (x ∷ xs) = AllByRecursion (R x) xs × Ascends R xs

@@ -41,7 +41,7 @@ desk_only make arguments each =
     asked_only (number_of arguments >>= λ (desk : ℕ). Some (make desk))
     (some_bound OnlyAsks (number_of arguments) (λ (desk : ℕ). Some (make desk)) each)
 
--- of a desk, with what stands behind it
+-- of a desk, with what follows it
 with_only : {A : Type 0} (make : ℕ → A → Order) (read : List ℕ → Option A) (arguments : List ℕ) →
     ((desk : ℕ) (a : A) → OnlyAsks (make desk a)) →
     IfSome (option_map asks (number_of (before_space arguments) >>= λ (desk : ℕ). read (after_space arguments) >>= λ (a : A). Some
@@ -58,7 +58,7 @@ either : {A : Type 0} (t : Bool) (first other : Option A) (f : A → Option Wish
 either true first other f here there = here
 either false first other f here there = there
 
--- each word that begins a command; `verb_of` gives of its own spelling what stands for it
+-- each word that begins a command; `verb_of` returns the verb of its own spelling
 verb_only : (word arguments : List ℕ) → IfSome (verb_of word >>= λ v. wish_by v arguments) AsksOnly
 verb_only word arguments =
     either (bytes_eq word (codes "!take")) (verb_of (codes "!take")) _ (λ v. wish_by v arguments)

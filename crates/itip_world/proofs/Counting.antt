@@ -36,7 +36,7 @@ not_later x [] y apart h same = h
 not_later x (z ∷ zs) y apart (inl e) same = apart.0 (same ∙ sym e)
 not_later x (z ∷ zs) y apart (inr h) same = not_later x zs y apart.1 h same
 
--- a list of which each item stands once is no longer than one that has its items
+-- a list with each item once is no longer than one that has its items
 no_longer : (xs ys : List Item) → Ascends Apart xs → ((y : Item) → IsIn xs y → IsIn ys y) → length xs ≤ length ys
 no_longer [] ys once within = omega arith
 no_longer (x ∷ xs) ys once within =

@@ -21,7 +21,7 @@ nothing_heard : (steps : List (List Item)) → heard steps ≡ heard (steps ++ [
 nothing_heard [] = refl
 nothing_heard (step ∷ steps) = ap (λ all. step ++ all) (nothing_heard steps)
 
--- a step of no item leaves a desk that of its history
+-- a step without items leaves a desk that of its history
 pub after_nothing : (history : History) (desk : Shown) → IsDeskAfter history desk → IsDeskAfter (with_one_more history []) desk
 after_nothing history desk after = record {
   is = nothing_more history.steps history.start desk after.is;
@@ -81,7 +81,7 @@ desk_there [] desk lt = absurd (omega arith)
 desk_there (d ∷ ds) zero lt = (d, refl)
 desk_there (d ∷ ds) (suc desk) lt = desk_there ds desk (omega arith)
 
--- writing what stands there changes nothing
+-- writing what is already there changes nothing
 pub set_itself : (desks : List Shown) (desk : ℕ) (d : Shown) → slice_get desks desk ≡ Some d → slice_set desks desk d ≡ desks
 set_itself [] desk d at = refl
 set_itself (x ∷ xs) zero d at = ap (λ (y : Shown). y ∷ xs) (sym (some_same x d at))
@@ -109,13 +109,13 @@ one_more_desk zero tick (x ∷ xs) d are is = absurd are
 one_more_desk (suc n) tick [] d are is = absurd are
 one_more_desk (suc n) tick (x ∷ xs) d are is = (are.0, one_more_desk n tick xs d are.1 is)
 
--- what stands at an index within the list, as the option that reading it gives
+-- what is at an index within the list, as the option that reading it returns
 pub slice_get-get_or : (desks : List Shown) (desk : ℕ) (d : Shown) → desk < length desks → slice_get desks desk ≡ Some (get_or desks desk d)
 slice_get-get_or [] desk d lt = absurd (omega arith)
 slice_get-get_or (x ∷ xs) zero d lt = refl
 slice_get-get_or (x ∷ xs) (suc desk) d lt = slice_get-get_or xs desk d (omega arith)
 
--- the history of a desk that is there
+-- the history of an existing desk
 pub record HistoryAt (histories : Histories) (desk : ℕ) (shown : Shown) : Type 0 where
   pub history : History
   pub there : slice_get histories desk ≡ Some history
@@ -133,7 +133,7 @@ history_at (h ∷ hs) (d ∷ ds) (suc desk) shown are at =
     let rest = history_at hs ds desk shown are.1 at in
     record { history = rest.history; there = rest.there; is = rest.is; entries = rest.entries }
 
--- a desk at an index, as the option that reading it gives
+-- a desk at an index, as the option that reading it returns
 pub at_index : (desks : List Shown) (desk : ℕ) (shown : Shown) → desk < length desks → ((d : Shown) → shown ≡ get_or desks desk d) →
     slice_get desks desk ≡ Some shown
 at_index desks desk shown within is = slice_get-get_or desks desk shown within ∙ ap (λ (s : Shown). Some s) (sym (is shown))

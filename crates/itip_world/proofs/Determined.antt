@@ -1,4 +1,4 @@
--- What desks that heard the same answer is the same.
+-- Desks that heard the same give the same answers.
 use Rattle.std.proofs.Common.{◌≡◌, ℕ, zero, suc, min, ◌-◌, ◌^◌, ◌<◌, Bool, true, false, List, [], ◌∷◌, ◌++◌, length, refl, sym, ap, subst}
 use Rattle.std.proofs.Common.{◌∙◌, arith, inl, inr, Option, Some, None}
 use Rattle.std.specs.Prelude.{◌↔◌, slice_get}
@@ -288,7 +288,7 @@ spent_step before before' step step' tick next uid same one at (inr stays) moves
     moves (keep_same_of uid before before' (before ++ step) (before' ++ step') same (same_together before before' step step' same one)
     (stays.0 uid))
 
--- a step that moves a UID at the last tick leaves no tick that there is
+-- a step that moves a UID at the last tick would need a tick that doesn't exist
 takes_spent : (h h' : History) (step step' : List Item) (uids : List (List ℕ)) (tick : ℕ) (uid : List ℕ) → SameHistory h h' →
     SameItems step step' → Takes h step uids tick → tick < 2 ^ 64
     → Ticks [] h'.start h'.steps (2 ^ 64 - 1) → Moves (heard h'.steps) step' uid → ⊥
@@ -319,7 +319,7 @@ event_spent old old' _ _ _ same once (arrives packet desk items h uids tick ther
     takes_spent h h' items items' uids tick uid (same_at old.histories old'.histories desk h h' same.desks at at')
     (same_step_at old.packets old'.packets packet items items' same.packets there there') t has t' m'
 
--- the desk and the packet that an event names are there
+-- the desk and the packet that an event names exist
 event_desk : (old : Past) (event : Event) (outcome : Outcome) (new : Past) → EventStep old event outcome new →
     desk_of event < length old.histories
 event_desk old _ outcome _ (delivers desk text h step _ at hears) = within_at old.histories desk h at
@@ -611,7 +611,7 @@ output_one window desks script output output' refusal refusal' (inr (long, is, f
 output_one window desks script output output' refusal refusal' (inr (long, is, flag)) (inr (long', is', flag')) =
     (is ∙ sym is', flag ∙ sym flag')
 
--- ---- the first so many commands
+-- ---- a prefix of the commands
 
 record Splits (window : Window) (old : Past) (done left : List Order) (answers : List Answer) (new : Past) : Type 0 where
   first : List Answer

@@ -28,7 +28,7 @@ use Rattle.itip_world.proofs.Desks.{counted, after_nothing, heard_more, HeardMor
 use Rattle.itip_world.proofs.Packets.{posted, texts_more, texts_length, packet_at, PacketAt}
 use Rattle.itip_world.proofs.Swaps.{AreAlike, kept_alike_whole, alike_back, keep_same_swap, desk_swap}
 
--- what comes of an event has a past where what was before it has one
+-- what comes of an event has a past if what was before it has one
 pub past_after : (old : ShownWorld) (event : Event) (outcome : Outcome) (new : ShownWorld) → HasPast old → Steps old event outcome new →
     HasPast new
 past_after old event outcome new before steps = let one = steps before.0 before.1 in (one.more, one.world_is)
@@ -50,7 +50,7 @@ pub record HearsAt (old : ShownWorld) (desk : ℕ) (batch : List Item) (outcome 
   pub packets_are : new.packets ≡ old.packets
 
 module _ (old new : ShownWorld) (desk : ℕ) (batch : List Item) (outcome : Outcome) (hears : HearsAt old desk batch outcome new) where
-  -- the desk with one step more, which is the batch or as good as it
+  -- the desk with one more step, which is the batch or as good as it
   heard_as : (past : Past) → IsWorldOf past old → (step : List Item) →
       ((steps : List (List Item)) (start : ℕ) → IsDeskOf steps start hears.was → IsDeskOf (steps ++ step ∷ []) start hears.is)
       → HeardMore past.histories old.desks desk step hears.was new.desks

@@ -1,4 +1,4 @@
--- What a desk hears of octets, or why it hears nothing.
+-- What a desk hears of some bytes, or why it hears nothing.
 use Rattle.std.proofs.Common.{◌≡◌, sym, subst, ℕ, zero, suc, List, [], ◌∷◌, Option, Some, None, Result, Ok, Err, IfOk, IfErr}
 use Rattle.std.specs.Prelude.{slice_get, slice_set}
 use Rattle.std.specs.List.{All}
@@ -22,7 +22,7 @@ use Rattle.itip_world.specs.Running.{Answer}
 use Rattle.itip_world.specs.declared.stop.Cause.{Cause}
 use Rattle.itip_world.specs.declared.stop.Cause.TheVariants as cause
 
--- ---- octets that are read
+-- ---- bytes that are read
 
 -- what was read is read
 pub if_read : {B : Type 0} (r : Result B ReadError) (b : B) (P : B → Type 0) → Ok b ≡ read_as r → IfOk r P → P b
@@ -48,7 +48,7 @@ not_read (Err read.NoMemory) why Gives Refuses number shown e h =
 not_read (Err (read.Refused of)) why Gives Refuses number shown e h =
     let same : why ≡ cause.Refused (refusal.Message of) = cc in subst (StopsOctets Gives Refuses number shown) (sym same) h
 
--- a desk that can't hear a batch can't hear the octets that tell it
+-- a desk that can't hear a batch can't hear the bytes that tell it
 pub stops_octets : (why : Cause) (batch : List Item) (Gives : List Item → Type 0) (Refuses : MessageRefusal → Type 0) (number : ℕ)
     (shown : Shown) → Gives batch → StopsHearing number shown batch why → StopsOctets Gives Refuses number shown why
 stops_octets cause.NoMemory batch Gives Refuses number shown gives stops = tt
@@ -63,7 +63,7 @@ stops_octets (cause.Refused refusal.LongScript) batch Gives Refuses number shown
 stops_octets (cause.Refused refusal.LongDelta) batch Gives Refuses number shown gives stops = absurd stops
 stops_octets (cause.Refused (refusal.File of)) batch Gives Refuses number shown gives stops = absurd stops
 
--- ---- desks that their files tell whole
+-- ---- desks that their files tell completely
 
 some_same : (a b : Shown) → Some a ≡ Some b → a ≡ b
 some_same a b e = cc

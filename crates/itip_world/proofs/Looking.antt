@@ -1,4 +1,4 @@
--- Questions to desks: what they are answered, and that a world answers them so, whatever happened before.
+-- Questions to desks: their answers, and that a world answers the same, whatever happened before.
 use Rattle.std.proofs.Common.{◌≡◌, ℕ, List, ◌++◌, sym, subst, ◌∙◌, refl, inl, inr, Option, Some, None}
 use Rattle.std.specs.Prelude.{slice_get, codes}
 use Rattle.std.specs.Option.{option_map}
@@ -68,7 +68,7 @@ front_of_look window world order old new kept (inr (answer, looks, front)) =
 
 -- ---- lists, which are written while they are made
 
--- an answer of this text, which is a refusal where a to-do has the most of too many rows
+-- an answer with this text, which is a refusal if a to-do has the most of too many rows
 pub record LooksSo (window : Window) (desks : List Shown) (order : Order) (most : Option MostRows) (text : List ℕ) : Type 0 where
   pub answer : Answer
   pub looks : Looks window desks order answer
@@ -137,7 +137,7 @@ module _ (window : Window) (desks : List Shown) (order : Order) (word : List ℕ
 
 -- ---- other answers
 
--- an answer is behind what is kept, and nothing was written
+-- an answer is appended to what is kept, and nothing was written
 pub look_told : (window : Window) (order : Order) (desks : List Shown) (o : Option (List ℕ)) (kept rest : List ℕ) (answer : Answer)
     (why : Option RefusedAs) → Looks window desks order answer → IsTold answer kept rest why →
     LookReplies window order desks o o kept rest why

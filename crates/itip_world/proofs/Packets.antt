@@ -121,7 +121,7 @@ module _ (history : History) (desk : Shown) (since : ℕ) (batch : List Item) (i
     );
   }
 
-  -- what a desk gives as its delta is what is kept of everything that it heard of the UIDs that moved
+  -- the delta of a desk is what is kept of everything that it heard of the UIDs that moved
   pub posted : (told : List Item) × IsPacketOf history since told × IsBatchOf told batch
   posted = (its_packet, is_packet, is_batch)
 
@@ -140,7 +140,7 @@ texts_length [] (t ∷ ts) are = absurd are
 texts_length (p ∷ ps) [] are = absurd are
 texts_length (p ∷ ps) (t ∷ ts) are = ap suc (texts_length ps ts are.1)
 
--- the packet that some octets are of
+-- the packet that some bytes are of
 pub record PacketAt (packets : List (List Item)) (number : ℕ) (octets : List ℕ) : Type 0 where
   pub told : List Item
   pub there : slice_get packets number ≡ Some told
@@ -159,7 +159,7 @@ packet_at (p ∷ ps) (t ∷ ts) (suc number) octets are at =
     let rest = packet_at ps ts number octets are.1 at in
     record { told = rest.told; there = rest.there; text = rest.text }
 
--- what stands at a number, as the option that reading it gives
+-- what is at a number, as the option that reading it returns
 pub text_there : (texts : List (List ℕ)) (number : ℕ) (octets d : List ℕ) → number < length texts → octets ≡ get_or texts number d →
     slice_get texts number ≡ Some octets
 text_there [] number octets d within is = absurd (omega arith)

@@ -64,7 +64,7 @@ module _ (window : Window) (desks : ℕ) (old new : Option (List ℕ)) (orders d
     refusal_is = so_far.refusal_is;
   }
 
-  -- a front of what is kept was written besides
+  -- a prefix of what is kept was written as well
   pub front_written : (newer : Option (List ℕ)) → AppendsFront new newer kept → WritesSome window desks old newer orders
   front_written newer front = record {
     done = done;
@@ -80,7 +80,7 @@ module _ (window : Window) (desks : ℕ) (old new : Option (List ℕ)) (orders d
   pub nothing_written : WritesSome window desks old new orders
   nothing_written = front_written new (front_none new kept)
 
-  -- all that is kept was written, behind the last command
+  -- all that is kept was written, after the last command
   pub all_written : (newer : Option (List ℕ)) → left ≡ [] → Appends new newer kept →
       WritesOutput (Writes window desks orders) old newer refusal
   all_written newer none appended =
@@ -91,7 +91,7 @@ module _ (window : Window) (desks : ℕ) (old new : Option (List ℕ)) (orders d
         appended = Appends-trans old new newer so_far.written kept so_far.appended appended;
       }
 
-  -- a front of what is kept was written, and the rest is kept
+  -- a prefix of what is kept was written, and the rest is kept
   pub moved_out : (newer : Option (List ℕ)) (rest : List ℕ) → MovesOut new newer kept rest →
       RunsSoFar window desks old newer orders done left world rest refusal
   moved_out newer rest moves = record {
@@ -107,7 +107,7 @@ module _ (window : Window) (desks : ℕ) (old new : Option (List ℕ)) (orders d
     appended = Appends-trans old new newer so_far.written moves.front so_far.appended moves.appended;
   }
 
-  -- one command more
+  -- one more command
   pub one_more : (order : Order) (others : List Order) (more : List Order) (after : ShownWorld) (answer : Answer) (more_kept : List ℕ)
       (is_refused : Bool)
       → left ≡ order ∷ others → more ≡ done ++ order ∷ [] → Answers window order world answer after → more_kept ≡ kept ++
@@ -158,7 +158,7 @@ some_mapped None = refl
 module _ (window : Window) (desks : ℕ) (old new newer : Option (List ℕ)) (orders done left : List Order) (world : ShownWorld)
     (kept : List ℕ) (refusal : Bool) (so_far : RunsSoFar window desks old new orders done left world kept refusal)
     (order : Order) (others more : List Order) (cut : left ≡ order ∷ others) (more_is : more ≡ done ++ order ∷ []) where
-  -- one command more, and what was written of its answer
+  -- one more command, and what was written of its answer
   pub one_replied : (after : ShownWorld) (rest : List ℕ) (why : Option RefusedAs) (is_refused : Bool) →
       Replies window order world after new newer kept rest why → is_refused ≡ is_some why
       → RunsSoFar window desks old newer orders more others after rest (refusal || is_refused)
@@ -169,7 +169,7 @@ module _ (window : Window) (desks : ℕ) (old new newer : Option (List ℕ)) (or
       (one_more window desks old new orders done left world kept refusal so_far order others more after replies.answer
       (kept ++ answer_text replies.answer) is_refused cut more_is replies.answers refl said) newer rest replies.moved
 
-  -- a front was written of what is kept, or of the answer to one command more
+  -- a prefix was written of what is kept, or of the answer to one more command
   pub front_replied : RepliesFront window order world new newer kept → WritesSome window desks old newer orders
   front_replied (inl front) = front_written window desks old new orders done left world kept refusal so_far newer front
   front_replied (inr writes) =

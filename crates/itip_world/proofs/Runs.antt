@@ -31,7 +31,7 @@ world_more old events event world new outcomes more outcome after steps more_is 
       world_is = one.world_is;
     }
 
--- an event of the list, as the option that reading it gives
+-- an event of the list, as the option that reading it returns
 pub event_there : (events : List Event) (i : ℕ) (event : Event) → i < length events → event ≡ get_or events i event →
     slice_get events i ≡ Some event
 event_there [] i event lt is = absurd (omega arith)
@@ -41,7 +41,7 @@ event_there (e ∷ es) (suc i) event lt is = event_there es i event (omega arith
 inside : (a b : Cause) (r : Result Outcome Cause) → r ≡ Err a → r ≡ Err b → a ≡ b
 inside a b r e f = ap (λ (s : Result Outcome Cause). elim s [ Ok x ↦ a | Err d ↦ d ]) (sym e ∙ f)
 
--- an event that was not done leaves the world as it was
+-- an event that was not done leaves the world unchanged
 pub stops_at : (old : Past) (events : List Event) (done : ℕ) (event : Event) (world new : ShownWorld) (outcomes : List Outcome)
     (why : Cause)
     → slice_get events done ≡ Some event → IsWorldAfter old (take done events) world outcomes → new ≡ world

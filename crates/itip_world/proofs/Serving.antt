@@ -1,4 +1,4 @@
--- What a stream answers where octets are brought to a desk.
+-- What a stream answers if bytes are brought to a desk.
 use Rattle.std.proofs.Common.{◌≡◌, ◌≢◌, ◌∙◌, sym, ap, refl, subst, ℕ, zero, suc, ◌<◌, ◌≤◌, List, [], ◌∷◌}
 use Rattle.std.proofs.Common.{length, Some, Result, Ok, Err, inl, inr, arith}
 use Rattle.std.specs.Prelude.{slice_get, slice_set, IfOk, OnOk}
@@ -24,7 +24,7 @@ use Rattle.itip_world.specs.declared.stop.Cause.TheVariants as cause
 use Rattle.itip_streams.specs.declared.fault.StreamFault.{StreamFault}
 use Rattle.itip_world.proofs.Desks.{set_itself}
 
--- ---- octets that a desk doesn't hear
+-- ---- bytes that a desk doesn't hear
 
 module _ (old : List Shown) (desk : ℕ) (was : Shown) (there : slice_get old desk ≡ Some was) (Gives : List Item → Type 0)
     (Refuses : MessageRefusal → Type 0) (serving : Serving)
@@ -36,7 +36,7 @@ module _ (old : List Shown) (desk : ℕ) (was : Shown) (there : slice_get old de
   told_so (cause.Refused why) given stops some is window =
       subst (λ (a : Answer). Serves window old serving (Some a) old) (sym (is why refl)) (told window why stops)
 
-  -- they leave it as it was
+  -- they leave it unchanged
   pub unheard_serves : (r : Result Given StreamFault) (came : Cause) (is : Shown) → is ≡ was → StopsOctets Gives Refuses desk was came →
       IfOk r (λ given. (why : Refusal) → came ≡ cause.Refused why → answer_of given ≡ refused why) → OnOk r (came ≢ cause.NoMemory) →
       IfOk r (λ given. (window : Window) → Serves window old serving (Some (answer_of given)) (slice_set old desk is))
@@ -69,14 +69,14 @@ desks_still asked desk was is there still =
     let same = ap (λ (shown : Shown). slice_set asked.desks.items desk shown) still ∙ set_itself asked.desks.items desk was there in
     λ i. record asked { desks = still_vec asked.desks desk is same i }
 
--- ---- a desk that is there
+-- ---- an existing desk
 
 pub within_if : (desks : List Shown) (desk : ℕ) (d : Shown) → slice_get desks desk ≡ Some d → desk < length desks
 within_if [] desk d at = absurd cc
 within_if (x ∷ xs) zero d at = omega arith
 within_if (x ∷ xs) (suc desk) d at = omega (arith, within_if xs desk d at)
 
--- ---- octets that are refused
+-- ---- bytes that are refused
 
 whole_is_read : (octets : List ℕ) → whole octets ≡ cut_off → ⊥
 whole_is_read octets e = cc

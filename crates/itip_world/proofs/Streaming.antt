@@ -82,7 +82,7 @@ nothing_read input mid (Some []) reads asks =
 
 -- ---- its answer
 
--- a front of nothing is nothing
+-- a prefix of nothing is nothing
 pub front_nothing : (old new : Option (List ℕ)) → AppendsFront old new [] → Appends old new []
 front_nothing old new front = subst (λ (t : List ℕ). Appends old new t) (empty front.front front.rest front.whole) front.appended
   where

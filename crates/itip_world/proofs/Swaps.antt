@@ -43,7 +43,7 @@ moved_swap before tick (step ∷ steps) a b since uid alike (next, one, inl here
 moved_swap before tick (step ∷ steps) a b since uid alike (next, one, inr later) =
     (next, one, inr (moved_swap (before ++ step) next steps a b since uid alike later))
 
--- a desk that heard one of them last is that which heard the other
+-- a desk that heard one of them last is one that heard the other
 pub desk_swap : (steps : List (List Item)) (start : ℕ) (desk : Shown) (a b : List Item) → AreAlike a b →
     IsDeskOf (steps ++ a ∷ []) start desk → IsDeskOf (steps ++ b ∷ []) start desk
 desk_swap steps start desk a b alike is = record {

@@ -1,4 +1,4 @@
--- What a stream is answered, behind what is kept to be written.
+-- What a stream is answered, after what is kept to be written.
 use Rattle.std.proofs.Common.{◌≡◌, sym, subst, refl, ℕ, ◌<◌, List, [], length, append-nil, inl, inr, Option, Some, None, Result, ◌⊎◌}
 use Rattle.std.specs.Prelude.{IfOk, Bool, true, false}
 use Rattle.std.specs.Io.KnownBytes.{IsAtEnd}
@@ -20,11 +20,11 @@ use Rattle.itip_world.specs.Serving.{Serves, serving_of, take, arrive, ReadsBehi
 use Rattle.itip_world.specs.Serving.Serves.{looks_at, knows_nothing, says_nothing}
 use Rattle.itip_world.specs.declared.watch.Refused.{Refused as RefusedAs}
 
--- no octet behind the line belongs to it
+-- no byte after the line belongs to it
 pub none_behind : (wish : Wish) (input : Option (List ℕ)) → body_length wish ≡ 0 → ReadsBehind wish input input []
 none_behind wish input none = record { consumed = Consumes-nil input; all = inl (sym none) }
 
--- these octets belong to it
+-- these bytes belong to it
 pub body_behind : (wish : Wish) (limit count : ℕ) (input left : Option (List ℕ)) (came : Brought) → body_length wish ≡ count →
     (reads : ReadsBody limit count input left came) → ReadsBehind wish input left reads.octets
 body_behind wish limit count input left came size reads =
@@ -39,7 +39,7 @@ passed_behind octets input left true passes = record { consumed = passes.consume
 passed_behind octets input left false passes = record { consumed = passes.consumed; all = inr passes.are }
 
 module _ (window : Window) (old : List Shown) (output : Option (List ℕ)) (kept : List ℕ) where
-  -- an answer is behind what is kept, and nothing was written
+  -- an answer is appended to what is kept, and nothing was written
   pub tells_told : (wish : Wish) (new : List Shown) (input left : Option (List ℕ)) (behind : List ℕ) → ReadsBehind wish input left behind →
       (answer : Answer) → Serves window old (serving_of wish behind) (Some answer) new → (rest : List ℕ)
       (r : Result (Option RefusedAs) StreamFault)

@@ -1,4 +1,4 @@
--- The UID of an item is a text, so octets that are none name no to-do.
+-- The UID of an item is UTF-8, so bytes that aren't name no to-do.
 use Rattle.std.proofs.Common.{◌≡◌, ℕ, List, sym, ap, subst, Some, None}
 use Rattle.std.specs.Str.{IsUtf8}
 use Rattle.itip_items.specs.KeyParts.{uid_of}

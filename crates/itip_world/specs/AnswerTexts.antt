@@ -1,4 +1,4 @@
--- The texts of answers (our own format). Each line ends with LF. Those of refusals and of lists are those of every desk.
+-- The texts of answers (our own format). Each line ends with LF. Refusals and lists have the texts that they have at every desk.
 use Rattle.std.specs.Prelude.{ℕ, List, [], ◌∷◌, ◌++◌, length, codes, Option, Some, None}
 use Rattle.std.specs.Fmt.{decimal}
 use Rattle.std.specs.List.{flat_map}
@@ -24,7 +24,7 @@ arrived_text packet desk tick changed =
 abbrev pub counted_text : ℕ → ℕ → List ℕ
 counted_text desk entries = codes "entries " ++ decimal desk ++ codes " " ++ decimal entries ++ 10 ∷ []
 
--- the line before those of a report, with how many they are
+-- the line before those of a report, with how many there are
 abbrev pub report_head : ℕ → ReportName → ℕ → List ℕ
 report_head desk named count = codes "report " ++ decimal desk ++ codes " " ++ name_text named ++ codes " " ++ decimal count ++ 10 ∷ []
 
@@ -34,17 +34,17 @@ ended line = line ++ 10 ∷ []
 abbrev pub reported_text : ℕ → ReportName → List (List ℕ) → List ℕ
 reported_text desk named lines = report_head desk named (length lines) ++ flat_map ended lines
 
--- the octets of the messages to send again as they are, after a line with their number
+-- the bytes of the messages to send again, unchanged, after a line with their number
 abbrev pub resent_text : ℕ → Option (List ℕ) → List ℕ
 resent_text desk (Some bytes) = codes "resend " ++ decimal desk ++ codes " bytes " ++ decimal (length bytes) ++ 10 ∷ bytes
 resent_text desk None = codes "resend " ++ decimal desk ++ codes " none" ++ 10 ∷ []
 
--- the next sequence to use, where there is one left
+-- the next sequence to use, if there is one left
 abbrev pub next_text : ℕ → Option ℕ → List ℕ
 next_text desk (Some sequence) = codes "next " ++ decimal desk ++ codes " " ++ decimal sequence ++ 10 ∷ []
 next_text desk None = codes "next " ++ decimal desk ++ codes " none" ++ 10 ∷ []
 
--- the line before the octets of a delta, with the tick of the desk, how many items there are and how many octets
+-- the line before the bytes of a delta, with the tick of the desk, how many items there are and how many bytes
 abbrev pub sent_head : ℕ → ℕ → ℕ → ℕ → List ℕ
 sent_head desk tick items count =
     codes "post " ++ decimal desk ++ codes " tick " ++ decimal tick ++ codes " items " ++ decimal items

@@ -1,5 +1,5 @@
--- What a command is answered that asks desks, as they are seen, and leaves them as they are; and what a desk hears (our own rule). A
--- script and a stream have the same answers.
+-- The answers to commands that ask desks, as they are seen, and leave them unchanged; and what a desk hears (our own rule). A script and
+-- a stream have the same answers.
 use Rattle.std.specs.Prelude.{◌≡◌, ◌⊎◌, ◌<◌, ◌≤◌, ◌^◌, ℕ, List, ◌++◌, length, Option, Some, Result, Ok, Err, slice_get}
 use Rattle.std.specs.Option.{option_map}
 use Rattle.itip_view.specs.declared.window.Window.{Window}
@@ -30,7 +30,7 @@ use Rattle.itip_world.specs.declared.stop.Cause.{Cause}
 use Rattle.itip_world.specs.declared.stop.Cause.TheVariants as cause
 use Rattle.itip_world.specs.declared.watch.Refused.{Refused as RefusedAs}
 
--- a command that asks a desk, and leaves it as it is
+-- a command that asks a desk, and leaves it unchanged
 abbrev pub OnlyAsks : Order → Type 0
 OnlyAsks (takes desk text) = ⊥
 OnlyAsks (lists desk) = Unit {0}
@@ -43,7 +43,7 @@ OnlyAsks (asks_next desk uid) = Unit {0}
 OnlyAsks (counts desk) = Unit {0}
 OnlyAsks malformed = ⊥
 
--- one of these that asks for no list
+-- one of these that doesn't ask for a list
 abbrev pub AsksBriefly : Order → Type 0
 AsksBriefly (takes desk text) = ⊥
 AsksBriefly (lists desk) = ⊥
@@ -56,11 +56,11 @@ AsksBriefly (asks_next desk uid) = Unit {0}
 AsksBriefly (counts desk) = Unit {0}
 AsksBriefly malformed = ⊥
 
--- one that only asks is another than these
+-- a command that doesn't only ask
 abbrev pub MovesSomething : Order → Type 0
 MovesSomething order = OnlyAsks order → ⊥
 
--- What is answered where desks are asked.
+-- The answer if desks are asked.
 pub data Looks (window : Window) (desks : List Shown) : Order → Answer → Type 0 where
   lists_rows : (desk : ℕ) (shown : Shown) (rows : List Row)
       → slice_get desks desk ≡ Some shown → AreListed shown.kept window rows → Looks window desks (lists desk) (listed desk rows)
@@ -92,7 +92,8 @@ pub data Looks (window : Window) (desks : List Shown) : Order → Answer → Typ
       → slice_get desks desk ≡ Some shown → IsNext shown.kept uid sequence → Looks window desks (asks_next desk uid) (next_is desk sequence)
   tells_no_desk : (desk : ℕ) (uid : List ℕ) → length desks ≤ desk → Looks window desks (asks_next desk uid) (refused (NoDesk desk))
 
--- A question is answered behind what is kept to be written, and a front of both is written; and why it is refused, if it is.
+-- The answer to a question is appended to what is kept to be written, and a prefix of both is written; and why the question is refused,
+-- if it is.
 pub record LookReplies (window : Window) (order : Order) (desks : List Shown) (old new : Option (List ℕ)) (kept rest : List ℕ)
     (refused : Option RefusedAs) : Type 0 where
   pub answer : Answer
@@ -100,12 +101,12 @@ pub record LookReplies (window : Window) (order : Order) (desks : List Shown) (o
   pub moved : MovesOut old new (kept ++ answer_text answer) rest
   pub refusal_is : option_map (λ (r : RefusedAs). r.refusal) refused ≡ refusal_of answer
 
--- A front was written of what is kept, or of that and of the answer to a question.
+-- A prefix was written of what is kept, or of that and the answer to a question.
 abbrev pub LookFront : Window → Order → List Shown → Option (List ℕ) → Option (List ℕ) → List ℕ → Type 0
 LookFront window order desks old new kept =
     AppendsFront old new kept ⊎ ((answer : Answer) × Looks window desks order answer × AppendsFront old new (kept ++ answer_text answer))
 
--- A desk heard a batch: what it keeps, its tick and what moved when, whatever it heard before; and what is told of that.
+-- A desk heard a batch: what it keeps, its tick and what moved when, whatever it heard before; and what is answered of that.
 pub record HearsNow (was : Shown) (step : List Item) (is : Shown) (heard : HeardAs) : Type 0 where
   pub uids : List (List ℕ)
   pub moved : AreMoved uids was.kept step
@@ -116,16 +117,16 @@ pub record HearsNow (was : Shown) (step : List Item) (is : Shown) (heard : Heard
   pub changed_is : heard.changed ≡ length uids
   -- a tick is below 2 ^ 64
   pub fits : is.tick < 2 ^ 64
-  -- a desk that its file tells whole is one still
+  -- a desk that its file tells completely is still one
   pub told : IsTold was → IsTold is
 
--- A desk heard the batch that octets tell.
+-- A desk heard the batch that some bytes tell.
 pub record HearsOctets (Gives : List Item → Type 0) (was is : Shown) (heard : HeardAs) : Type 0 where
   pub batch : List Item
   pub gives : Gives batch
   pub hears : HearsNow was batch is heard
 
--- a cause for which the desk of this number doesn't hear a batch that octets tell
+-- a cause for which the desk with this number doesn't hear a batch that some bytes tell
 pub record StopsAt (Gives : List Item → Type 0) (number : ℕ) (shown : Shown) (why : Cause) : Type 0 where
   pub batch : List Item
   pub gives : Gives batch
@@ -142,7 +143,7 @@ StopsFor Gives Refuses number shown LongScript = ⊥
 StopsFor Gives Refuses number shown LongDelta = ⊥
 StopsFor Gives Refuses number shown (File refusal) = ⊥
 
--- a cause for which the desk of this number doesn't hear octets: they are refused, or it can't hear what they tell
+-- a cause for which the desk with this number doesn't hear some bytes: they are refused, or it can't hear what they tell
 abbrev pub StopsOctets : (List Item → Type 0) → (MessageRefusal → Type 0) → ℕ → Shown → Cause → Type 0
 StopsOctets Gives Refuses number shown cause.NoMemory = Unit {0}
 StopsOctets Gives Refuses number shown (cause.Refused refusal) = StopsFor Gives Refuses number shown refusal

@@ -32,7 +32,7 @@ use Rattle.itip_world.specs.AnswerTexts.{sent_text, reached_text, saved_text}
 use Rattle.itip_script.specs.Script.{orders_of}
 use Rattle.itip_streams.specs.Written.{AppendsFront, MovesOut}
 
--- What a command is answered.
+-- The answer to a command.
 pub data Answer : Type 0 where
   refused : Refusal → Answer
   -- the desk took a message, its tick then, and how many UIDs changed
@@ -49,11 +49,11 @@ pub data Answer : Type 0 where
   counted : ℕ → ℕ → Answer
   -- the lines of a report of a desk
   reported : ℕ → ReportName → List (List ℕ) → Answer
-  -- what a desk sends again of a UID, or that there is nothing to send
+  -- what a desk sends again for a UID, or that there is nothing to send
   resent : ℕ → Option (List ℕ) → Answer
   -- the next sequence of a UID at a desk, or that none is left
   next_is : ℕ → Option ℕ → Answer
-  -- what a desk posts to a stream: its tick, how many items there are, and their octets
+  -- what a desk posts to a stream: its tick, how many items there are, and their bytes
   sent : ℕ → ℕ → ℕ → List ℕ → Answer
   -- a delta reached a desk, its tick then, and how many UIDs changed
   reached : ℕ → ℕ → ℕ → Answer
@@ -134,13 +134,13 @@ event_of (asks_next desk uid) = None
 event_of (counts desk) = None
 event_of malformed = None
 
--- what a desk says that has heard a message or a packet
+-- the answer if a desk has heard a message or a packet
 abbrev pub heard_at : Event → ℕ → ℕ → Answer
 heard_at (Deliver desk bytes) tick changed = took desk tick changed
 heard_at (Post desk since) tick changed = took desk tick changed
 heard_at (Arrive packet desk) tick changed = arrived packet desk tick changed
 
--- what is answered where this came of an event
+-- the answer to an event with this outcome
 abbrev pub answer_to : Event → Outcome → Answer
 answer_to event (Heard tick changed) = heard_at event tick changed
 answer_to event (Posted packet items) = posted packet items
@@ -152,17 +152,17 @@ HasTick (Heard tick changed) = tick < 2 ^ 64
 HasTick (Posted packet items) = Unit {0}
 HasTick (Refused refusal) = Unit {0}
 
--- the rows of the window, of which there are no more than the limit
+-- the rows of the window, if there are no more than the limit
 pub record AreListed (heard : List Item) (window : Window) (rows : List Row) : Type 0 where
   pub are_rows : AreRows heard window rows
   pub few : length rows ≤ row_limit
 
--- the rows of the window that show the attendee of an address, of which there are no more than the limit
+-- the rows of the window that show the attendee with this address, if there are no more than the limit
 pub record AreListedFor (address : List ℕ) (heard : List Item) (window : Window) (rows : List Row) : Type 0 where
   pub are_rows : AreRowsWhere (Shows address) heard window rows
   pub few : length rows ≤ row_limit
 
--- What is answered where an event is asked of a world, and what happened then.
+-- The answer if an event is asked of a world, and what has happened after it.
 pub data Happens (old : Past) (event : Event) : Answer → Past → Type 0 where
   is_done : (outcome : Outcome) (new : Past) → EventStep old event outcome new → HasTick outcome
       → Happens old event (answer_to event outcome) new
@@ -171,7 +171,7 @@ pub data Happens (old : Past) (event : Event) : Answer → Past → Type 0 where
       → Happens old event (refused (NoPacket packet)) old
   spends_ticks : IsSpent old event → Happens old event (refused (TicksSpent (desk_of event))) old
 
--- One command: from what happened before, its answer, and what happened then.
+-- One command: what happened before, its answer, and what has happened after it.
 pub data Step (window : Window) (old : Past) : Order → Answer → Past → Type 0 where
   happens : (order : Order) (event : Event) (answer : Answer) (new : Past)
       → event_of order ≡ Some event → Happens old event answer new → Step window old order answer new
@@ -228,7 +228,7 @@ pub record Writes (window : Window) (desks : ℕ) (orders : List Order) (output 
   pub output_is : output ≡ flat_map answer_text answers
   pub refusal_is : refusal ≡ list_any is_refusal answers
 
--- A front was written of what the first so many commands write.
+-- A prefix was written of what a prefix of the commands writes.
 pub record WritesSome (window : Window) (desks : ℕ) (old new : Option (List ℕ)) (orders : List Order) : Type 0 where
   pub done : List Order
   pub left : List Order
@@ -244,7 +244,7 @@ IsOutput window desks script output refusal =
     ((length script ≤ 16777216) × Writes window desks (orders_of script) output refusal)
     ⊎ ((16777216 < length script) × (output ≡ refused_text 61) × (refusal ≡ true))
 
--- A front was written of what a script writes; where it was not run to its end, of what the commands write that were done.
+-- A prefix was written of what a script writes or, if it wasn't run to its end, of what the commands that were done write.
 abbrev pub WritesRunFront : Window → ℕ → Option (List ℕ) → Option (List ℕ) → List ℕ → Type 0
 WritesRunFront window desks old new script =
     ((length script ≤ 16777216) × WritesSome window desks old new (orders_of script))
@@ -273,12 +273,13 @@ pub record RunsSoFar (window : Window) (desks : ℕ) (old new : Option (List ℕ
   pub output_is : flat_map answer_text answers ≡ written ++ kept
   pub appended : Appends old new written
 
--- the text of an answer is behind what was kept, and this is why the command was refused, if it was
+-- the text of an answer is appended to what was kept, and this is why the command was refused, if it was
 pub record IsTold (answer : Answer) (kept told : List ℕ) (refused : Option RefusedAs) : Type 0 where
   pub text_is : told ≡ kept ++ answer_text answer
   pub refusal_is : option_map (λ (r : RefusedAs). r.refusal) refused ≡ refusal_of answer
 
--- A command is answered behind what is kept to be written, and a front of both is written; and why it is refused, if it is.
+-- The answer to a command is appended to what is kept to be written, and a prefix of both is written; and why the command is refused, if
+-- it is.
 pub record Replies (window : Window) (order : Order) (world after : ShownWorld) (old new : Option (List ℕ)) (kept rest : List ℕ)
     (refused : Option RefusedAs) : Type 0 where
   pub answer : Answer
@@ -286,13 +287,13 @@ pub record Replies (window : Window) (order : Order) (world after : ShownWorld) 
   pub moved : MovesOut old new (kept ++ answer_text answer) rest
   pub refusal_is : option_map (λ (r : RefusedAs). r.refusal) refused ≡ refusal_of answer
 
--- A front was written of what is kept and of the answer to a command.
+-- A prefix was written of what is kept and the answer to a command.
 pub record WritesAnswer (window : Window) (order : Order) (world : ShownWorld) (old new : Option (List ℕ)) (kept : List ℕ) : Type 0 where
   pub answer : Answer
   pub after : ShownWorld
   pub answers : Answers window order world answer after
   pub appended : AppendsFront old new (kept ++ answer_text answer)
 
--- A front was written of what is kept, or of that and of the answer to a command.
+-- A prefix was written of what is kept, or of that and the answer to a command.
 abbrev pub RepliesFront : Window → Order → ShownWorld → Option (List ℕ) → Option (List ℕ) → List ℕ → Type 0
 RepliesFront window order world old new kept = AppendsFront old new kept ⊎ WritesAnswer window order world old new kept

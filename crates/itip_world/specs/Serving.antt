@@ -22,7 +22,7 @@ use Rattle.itip_world.specs.Running.{Answer, refused, took, sent, reached, saved
 use Rattle.itip_world.specs.declared.answer.Heard.{Heard as HeardAs}
 use Rattle.itip_world.specs.declared.watch.Refused.{Refused as RefusedAs}
 
--- What is served: a wish, with what came of the octets that belong to its line.
+-- What is served: a wish, with what came of the bytes that belong to its line.
 pub data Serving : Type 0 where
   take : ℕ → Brought → Serving
   arrive : ℕ → Brought → Serving
@@ -32,7 +32,7 @@ pub data Serving : Type 0 where
   nothing_known : Serving
   nothing_said : Serving
 
--- what is served of a wish, where these octets are behind its line
+-- what is served for a wish, if these bytes follow its line
 abbrev pub serving_of : Wish → List ℕ → Serving
 serving_of (takes desk octets) behind = take desk (brought message_limit octets behind)
 serving_of (arrives desk octets) behind = arrive desk (brought delta_limit octets behind)
@@ -42,7 +42,7 @@ serving_of (asks order) behind = ask order
 serving_of (malformed octets) behind = nothing_known
 serving_of empty behind = nothing_said
 
--- what is asked of a desk leaves it as it is
+-- a wish that asks a desk leaves it unchanged
 abbrev pub AsksOnly : Wish → Type 0
 AsksOnly (takes desk octets) = Unit {0}
 AsksOnly (arrives desk octets) = Unit {0}
@@ -52,16 +52,16 @@ AsksOnly (asks order) = OnlyAsks order
 AsksOnly (malformed octets) = Unit {0}
 AsksOnly empty = Unit {0}
 
--- why a message is refused that is too long to be held
+-- why a message that is too long to hold is refused
 abbrev pub long_message : Refusal
 long_message = Message (of_lines (record { cause = TooLong; line = None }))
 
--- octets for a desk are refused so, unless there is no such desk
+-- bytes for a desk are refused for this cause, or because there is no such desk
 abbrev pub RefusesAt : List Shown → ℕ → Refusal → Answer → Type 0
 RefusesAt desks desk refusal answer =
     ((desk < length desks) × (answer ≡ refused refusal)) ⊎ ((length desks ≤ desk) × (answer ≡ refused (NoDesk desk)))
 
--- What is answered, and the desks after it. A line that says nothing has no answer. Of a file nothing is known: a desk is saved, or isn't.
+-- The answer, and the desks after it. A line that says nothing has no answer. Nothing is known of a file: a desk is saved, or isn't.
 pub data Serves (window : Window) (old : List Shown) : Serving → Option Answer → List Shown → Type 0 where
   takes_message : (desk : ℕ) (text : List ℕ) (was is : Shown) (heard : HeardAs) → slice_get old desk ≡ Some was
       → HearsOctets (GivesBatch text) was is heard
@@ -96,7 +96,7 @@ pub data Serves (window : Window) (old : List Shown) : Serving → Option Answer
   knows_nothing : Serves window old nothing_known (Some (refused NoCommand)) old
   says_nothing : Serves window old nothing_said None old
 
--- what is written of an answer, where there is one
+-- the text of an answer, if there is one
 abbrev pub reply_text : Option Answer → List ℕ
 reply_text None = []
 reply_text (Some answer) = answer_text answer
@@ -109,7 +109,7 @@ abbrev pub reply_refusal : Option Answer → Option Refusal
 reply_refusal None = None
 reply_refusal (Some answer) = refusal_of answer
 
--- A command as it was served: its line, the octets behind it that belong to it, and its reply.
+-- A command as it was served: its line, the bytes after the line that belong to it, and its reply.
 pub record Served : Type 0 where
   pub line : List ℕ
   pub behind : List ℕ
@@ -118,7 +118,7 @@ pub record Served : Type 0 where
 
 -- ---- one command
 
--- One command of a stream: it was read and no octet behind it, and all that was written is its reply.
+-- One command of a stream: it was read, and no byte after it, and all that was written is its reply.
 pub record ServesOne (window : Window) (old new : List Shown) (input left output written : Option (List ℕ)) (refused : Bool) : Type 0 where
   pub one : Served
   pub reads : ReadsWish input left one.line one.behind one.wish
@@ -126,13 +126,13 @@ pub record ServesOne (window : Window) (old new : List Shown) (input left output
   pub writes : Appends output written (reply_text one.reply)
   pub refusal_is : refused ≡ refuses one.reply
 
--- No octet was left, and nothing was written.
+-- No byte was left, and nothing was written.
 pub record EndsStream (old new : List Shown) (input left output written : Option (List ℕ)) : Type 0 where
   pub still : new ≡ old
   pub reads : ReadsNothing input left
   pub kept : Keeps output written
 
--- A command was read and no octet behind it; what was said before was written whole, and behind it a front of its reply.
+-- A command was read, and no byte after it; what was said before was written whole, followed by a prefix of its reply.
 pub record FrontOfOne (window : Window) (old : List Shown) (input left output written : Option (List ℕ)) (before : List ℕ) : Type 0 where
   pub one : Served
   pub after : List Shown
@@ -143,19 +143,19 @@ pub record FrontOfOne (window : Window) (old : List Shown) (input left output wr
   pub whole : reply_text one.reply ≡ front ++ rest
   pub appended : Appends output written (before ++ front)
 
--- after a fault nothing was written, or a front of the reply to the command that was read
+-- after a fault nothing was written, or a prefix of the reply to the command that was read
 abbrev pub ServesFront : Window → List Shown → Option (List ℕ) → Option (List ℕ) → Option (List ℕ) → Option (List ℕ) → Type 0
 ServesFront window old input left output written =
     AppendsFront output written [] ⊎ FrontOfOne window old input left output written []
 
 -- ---- what a line asks for, once the line is read
 
--- The octets that belong to a line of this wish were read, or all that was left of them.
+-- The bytes that belong to a line of this wish were read, or all that was left of them.
 pub record ReadsBehind (wish : Wish) (input left : Option (List ℕ)) (behind : List ℕ) : Type 0 where
   pub consumed : Consumes input left behind
   pub all : (length behind ≡ body_length wish) ⊎ ((length behind < body_length wish) × IsAtEnd left)
 
--- It is done and told behind what is kept to be written; and why it is refused, if it is.
+-- A wish is done, its reply is appended to what is kept to be written, and a prefix of both is written; and why it is refused, if it is.
 pub record Tells (window : Window) (wish : Wish) (old new : List Shown) (input left output written : Option (List ℕ)) (kept rest : List ℕ)
     (refused : Option RefusedAs) : Type 0 where
   pub behind : List ℕ
@@ -165,7 +165,7 @@ pub record Tells (window : Window) (wish : Wish) (old new : List Shown) (input l
   pub moved : MovesOut output written (kept ++ reply_text reply) rest
   pub refusal_is : option_map (λ (r : RefusedAs). r.refusal) refused ≡ reply_refusal reply
 
--- It is done, and all that was written is what it is told.
+-- A wish is done, and all that was written is its reply.
 pub record TellsOne (window : Window) (wish : Wish) (old new : List Shown) (input left output written : Option (List ℕ)) (refused : Bool)
     : Type 0 where
   pub behind : List ℕ
@@ -175,7 +175,7 @@ pub record TellsOne (window : Window) (wish : Wish) (old new : List Shown) (inpu
   pub writes : Appends output written (reply_text reply)
   pub refusal_is : refused ≡ refuses reply
 
--- A front was written of what is kept and of what it is told.
+-- A prefix was written of what is kept and the reply to a wish.
 pub record TellsSome (window : Window) (wish : Wish) (old : List Shown) (input left output written : Option (List ℕ)) (kept : List ℕ)
     : Type 0 where
   pub behind : List ℕ
@@ -185,7 +185,7 @@ pub record TellsSome (window : Window) (wish : Wish) (old : List Shown) (input l
   pub serves : Serves window old (serving_of wish behind) reply after
   pub appended : AppendsFront output written (kept ++ reply_text reply)
 
--- after a fault a front was written of what is kept, or of that and of what it is told
+-- after a fault a prefix was written of what is kept, or of that and the reply to a wish
 abbrev pub TellsFront : Window → Wish → List Shown → Option (List ℕ) → Option (List ℕ) → Option (List ℕ) → Option (List ℕ) → List ℕ → Type 0
 TellsFront window wish old input left output written kept =
     AppendsFront output written kept ⊎ TellsSome window wish old input left output written kept
@@ -198,14 +198,14 @@ output_of served = flat_map (λ (one : Served). reply_text one.reply) served
 abbrev pub refusal_in : List Served → Bool
 refusal_in served = list_any (λ (one : Served). refuses one.reply) served
 
--- A run is its steps: each command is the first of what the ones before left, and is served by the desks that these left.
+-- A run, step by step: each command is the first of what those before it left, and is served by the desks that they left.
 abbrev pub RunsStream : Window → Option (List ℕ) → List Shown → List Served → Option (List ℕ) → List Shown → Type 0
 RunsStream window input old [] left new = (left ≡ input) × (new ≡ old)
 RunsStream window input old (one ∷ others) left new =
     (mid : Option (List ℕ)) × (between : List Shown) × ReadsWish input mid one.line one.behind one.wish
     × Serves window old (serving_of one.wish one.behind) one.reply between × RunsStream window mid between others left new
 
--- A stream to its end: its commands were read to the last octet, and what was written is their replies.
+-- A stream to its end: its commands were read to the last byte, and what was written is their replies.
 pub record IsStream (window : Window) (desks : List Shown) (input left output written : Option (List ℕ)) (refusal : Bool) : Type 0 where
   pub served : List Served
   pub mid : Option (List ℕ)
@@ -215,8 +215,8 @@ pub record IsStream (window : Window) (desks : List Shown) (input left output wr
   pub appended : Appends output written (output_of served)
   pub refusal_is : refusal ≡ refusal_in served
 
--- After a fault: so many commands were served, and their replies were written whole; or behind them a front of the reply to the next,
--- and no octet behind that one was read.
+-- After a fault: a prefix of the commands was served, and their replies were written whole; or these and then a prefix of the reply to
+-- the next, and no byte after that command was read.
 pub record IsStreamFront (window : Window) (desks : List Shown) (input left output written : Option (List ℕ)) : Type 0 where
   pub served : List Served
   pub mid : Option (List ℕ)

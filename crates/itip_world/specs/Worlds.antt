@@ -35,7 +35,7 @@ with_one_more history step = record { start = history.start; steps = history.ste
 abbrev pub Histories : Type 0
 Histories = List History
 
--- so many desks that have heard nothing, from this tick
+-- this many desks that have heard nothing, from this tick
 abbrev pub histories_from : ℕ → ℕ → Histories
 histories_from desks tick = replicate desks (history_from tick)
 
@@ -45,16 +45,16 @@ with_step [] desk step = []
 with_step (history ∷ histories) zero step = with_one_more history step ∷ histories
 with_step (history ∷ histories) (suc desk) step = history ∷ with_step histories desk step
 
--- What happened: what each desk has heard, and all that each packet tells, the packets numbered from 0.
+-- What happened: what each desk has heard, and all that each packet tells. Packets are numbered from 0.
 pub record Past : Type 0 where
   pub histories : Histories
   pub packets : List (List Item)
 
--- so many desks begin at this tick, and nothing has happened yet
+-- this many desks begin at this tick, and nothing has happened yet
 abbrev pub past_from : ℕ → ℕ → Past
 past_from desks tick = record { histories = histories_from desks tick; packets = [] }
 
--- nothing happened yet, from tick 0
+-- nothing has happened yet, from tick 0
 abbrev pub no_past : ℕ → Past
 no_past desks = past_from desks 0
 
@@ -64,12 +64,12 @@ past_with_step past desk step = record { histories = with_step past.histories de
 abbrev pub past_with_packet : Past → List Item → Past
 past_with_packet past packet = record { histories = past.histories; packets = past.packets ++ packet ∷ [] }
 
--- A desk of this history hears a step of these items: its tick then, and the UIDs that move.
+-- A desk with this history hears a step of these items: its tick afterwards, and the UIDs that move.
 pub record Takes (history : History) (step : List Item) (uids : List (List ℕ)) (tick : ℕ) : Type 0 where
   pub moved : AreMoved uids (heard history.steps) step
   pub ticks : Ticks [] history.start (history.steps ++ step ∷ []) tick
 
--- What a text adds to a desk of this history, and what comes of it: the items of the message, or nothing where it is refused.
+-- What a text adds to a desk with this history, and what comes of it: the items of the message, or nothing if it is refused.
 pub data Hears (history : History) (bytes : List ℕ) (step : List Item) : Outcome → Type 0 where
   reads : (items : List Item) (uids : List (List ℕ)) (tick : ℕ) → ReadsMessage bytes items → SameItems step items
       → Takes history step uids tick → Hears history bytes step (Heard tick (length uids))
@@ -79,7 +79,7 @@ pub data Hears (history : History) (bytes : List ℕ) (step : List Item) : Outco
 abbrev pub IsPacketOf : History → ℕ → List Item → Type 0
 IsPacketOf history since packet = TellsAfter history.start history.steps since packet
 
--- what is kept of a packet, by canonical octets, each once
+-- what is kept of a packet, by canonical bytes, each once
 pub record IsBatchOf (packet batch : List Item) : Type 0 where
   pub ascend : AscendOctets batch
   pub kept : AreKept batch packet
@@ -96,7 +96,7 @@ pub data EventStep (old : Past) : Event → Outcome → Past → Type 0 where
       → slice_get old.packets packet ≡ Some items → slice_get old.histories desk ≡ Some history → Takes history items uids tick
       → EventStep old (Arrive packet desk) (Heard tick (length uids)) (past_with_step old desk items)
 
--- an event would move a UID of a desk at the last tick
+-- an event would move a UID of a desk that is at the last tick
 pub data IsSpent (old : Past) : Event → Type 0 where
   spends : (desk : ℕ) (bytes : List ℕ) (history : History) (items step : List Item) (uid : List ℕ)
       → slice_get old.histories desk ≡ Some history → ReadsMessage bytes items → SameItems step items
@@ -114,7 +114,7 @@ Runs old (event ∷ events) (outcome ∷ outcomes) new = (mid : Past) × EventSt
 Runs old [] (outcome ∷ outcomes) new = ⊥
 Runs old (event ∷ events) [] new = ⊥
 
--- The number of items kept of what was heard, or the greatest number of 64 bits where there are more.
+-- The number of items kept of what was heard, or the greatest 64-bit number if there are more.
 pub record CountsKept (all : List Item) (count : ℕ) : Type 0 where
   pub kept : List Item
   pub once : HasEachOnce kept
@@ -137,7 +137,7 @@ AreDesksOf [] (desk ∷ desks) = ⊥
 AreDesksOf (history ∷ histories) [] = ⊥
 AreDesksOf (history ∷ histories) (desk ∷ desks) = IsDeskAfter history desk × AreDesksOf histories desks
 
--- The octets of a packet are those of what is kept of all that it tells.
+-- The bytes of a packet are those of what is kept of all that it tells.
 pub record IsPacketText (packet : List Item) (octets : List ℕ) : Type 0 where
   pub batch : List Item
   pub batch_is : IsBatchOf packet batch
@@ -159,11 +159,11 @@ pub record ShownWorld : Type 0 where
   pub desks : List Shown
   pub packets : List (List ℕ)
 
--- the world of no desk
+-- the world without desks
 abbrev pub empty_world : ShownWorld
 empty_world = record { desks = []; packets = [] }
 
--- The world is one after what happened.
+-- What happened brings about this world.
 abbrev pub IsWorldOf : Past → ShownWorld → Type 0
 IsWorldOf past world = BringsAbout past world.desks world.packets
 
@@ -187,13 +187,13 @@ desk_of (Deliver desk bytes) = desk
 desk_of (Post desk since) = desk
 desk_of (Arrive packet desk) = desk
 
--- An event names this packet, which isn't there, of so many.
+-- An event names this packet, which doesn't exist among this many.
 abbrev pub LacksPacket : ℕ → Event → ℕ → Type 0
 LacksPacket packets (Deliver desk bytes) packet = ⊥
 LacksPacket packets (Post desk since) packet = ⊥
 LacksPacket packets (Arrive number desk) packet = (packet ≡ number) × (packets ≤ packet)
 
--- The desk is there, and this packet is not: a missing desk comes first.
+-- The desk exists, and this packet doesn't: a missing desk comes first.
 abbrev pub LacksOnlyPacket : ℕ → ℕ → Event → ℕ → Type 0
 LacksOnlyPacket desks packets event packet = (desk_of event < desks) × LacksPacket packets event packet
 
@@ -203,17 +203,17 @@ ComesTo (Deliver desk bytes) number = number ≡ desk
 ComesTo (Post desk since) number = ⊥
 ComesTo (Arrive packet desk) number = number ≡ desk
 
--- Each desk to which an event brings nothing is as it was.
+-- Each desk to which an event brings nothing is unchanged.
 abbrev pub OthersStay : ShownWorld → Event → ShownWorld → Type 0
 OthersStay old event new = (number : ℕ) → (¬ ComesTo event number) → slice_get new.desks number ≡ slice_get old.desks number
 
--- the world after some events, of which these were the outcomes
+-- the world after some events with these outcomes
 pub record IsWorldAfter (old : Past) (events : List Event) (world : ShownWorld) (outcomes : List Outcome) : Type 0 where
   pub past : Past
   pub runs : Runs old events outcomes past
   pub world_is : IsWorldOf past world
 
--- one event with this outcome brings about a world: one step more of what happened
+-- one event with this outcome brings about a world: one more step of what happened
 pub record StepsWorld (past : Past) (event : Event) (outcome : Outcome) (new : ShownWorld) : Type 0 where
   pub more : Past
   pub step : EventStep past event outcome more
@@ -223,11 +223,11 @@ pub record StepsWorld (past : Past) (event : Event) (outcome : Outcome) (new : S
 abbrev pub Steps : ShownWorld → Event → Outcome → ShownWorld → Type 0
 Steps old event outcome new = (past : Past) → IsWorldOf past old → StepsWorld past event outcome new
 
--- at the last tick an event would move a UID, whatever happened to bring about this world
+-- an event would move a UID at the last tick, whatever happened to bring about this world
 abbrev pub Spends : ShownWorld → Event → Type 0
 Spends world event = (past : Past) → IsWorldOf past world → IsSpent past event
 
--- A world refuses an event: it names a desk or a packet that isn't there, or would move a UID at the last tick of its desk.
+-- A world refuses an event: it names a desk or a packet that doesn't exist, or would move a UID at the last tick of its desk.
 abbrev pub RefusesEvent : ShownWorld → Event → Refusal → Type 0
 RefusesEvent world event (NoDesk desk) = (desk ≡ desk_of event) × (length world.desks ≤ desk)
 RefusesEvent world event (NoPacket packet) = LacksOnlyPacket (length world.desks) (length world.packets) event packet
@@ -258,7 +258,7 @@ pub record IsAtLastTick (desk : Shown) (batch : List Item) : Type 0 where
   pub uid : List ℕ
   pub moves : Moves desk.kept batch uid
 
--- a cause for which the desk of this number doesn't hear a batch
+-- a cause for which the desk with this number doesn't hear a batch
 abbrev pub StopsHearing : ℕ → Shown → List Item → Cause → Type 0
 StopsHearing number shown batch cause.NoMemory = Unit {0}
 StopsHearing number shown batch (cause.Refused (TicksSpent desk)) = (desk ≡ number) × IsAtLastTick shown batch

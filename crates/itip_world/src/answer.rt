@@ -1,4 +1,4 @@
-//! What a command is answered.
+//! The answers to commands.
 ghost use Rattle.std.specs.Prelude.{◌≡◌};
 ghost use Rattle.std.specs.Option.{option_map};
 ghost use Rattle.itip_world.specs.Running.{answer_of, refusal_of};
@@ -15,19 +15,19 @@ pub(crate) struct Heard {
     pub(crate) changed: usize,
 }
 
-/// What a command is answered that asks for no list. Desks and packets are numbered from 0.
+/// The answer to a command that doesn't ask for a list. Desks and packets are numbered from 0.
 #[derive(Drop)]
 pub(crate) enum Answer {
     /// Why the command was refused.
     Refused(Refusal),
-    /// There are too many rows to tell of; the to-do with the most of them.
+    /// There are too many rows to report on, and this to-do has the most of them.
     TooMany(MostRows),
     /// A desk took a message.
     Took {
         desk: usize,
         heard: Heard,
     },
-    /// A packet was posted, of so many items.
+    /// A packet of `items` items was posted.
     Posted {
         packet: usize,
         items: usize,
@@ -49,12 +49,12 @@ pub(crate) enum Answer {
         name: ReportName,
         lines: Vec<String>,
     },
-    /// The messages that a desk sends again of a UID, or `None` where there are none.
+    /// The messages that a desk sends again for a UID, or `None` if there are none.
     Resent {
         desk: u64,
         messages: Option<Vec<u8>>,
     },
-    /// What changed at a desk, as the octets of a delta of so many items, and its tick.
+    /// What changed at a desk, as the bytes of a delta of `items` items, and the tick of the desk.
     Sent {
         desk: u64,
         tick: u64,
@@ -71,7 +71,7 @@ pub(crate) enum Answer {
         desk: u64,
         tick: u64,
     },
-    /// The next sequence of a UID at a desk, or `None` where none is left.
+    /// The next sequence of a UID at a desk, or `None` if none is left.
     Next {
         desk: u64,
         sequence: Option<u32>,

@@ -21,7 +21,7 @@ use itip_view::Window;
 use std::alloc::{AllocError, Global};
 use std::io::Write;
 
-/// The desks that commands are asked of, and the window of lists.
+/// The desks that commands go to, and the window of lists.
 #[derive(Drop)]
 pub(crate) struct Desks {
     pub(crate) alloc: Global,
@@ -42,9 +42,9 @@ impl Desks {
         })
     }
 
-    /// Does a command, and says why it was refused, if it was. The answer is put behind the octets that are kept to be written; where
-    /// it is a list, they are written once they are 65,536 or more. After a fault a front of what is kept was written, or of that and
-    /// of the answer.
+    /// Does a command, and returns why it was refused, if it was. The answer is appended to the bytes in `kept`, which are to be written;
+    /// if it is a list, they are written once there are 65,536 or more. On an error, a prefix of `kept` has been written, or of `kept`
+    /// and the answer.
     pub(crate) fn reply<W: Write>(
         &mut self,
         command: &Command<'_>,
@@ -65,7 +65,7 @@ impl Desks {
         told(answer, kept)
     }
 
-    /// What the desks are asked.
+    /// The desks, for commands that only ask.
     fn look(&self) -> Look<'_>
         ensures desks { result.desks.now ≡ self.now.world.desks }
         ensures window { result.window ≡ self.now.window }
@@ -77,7 +77,8 @@ impl Desks {
         }
     }
 
-    /// Does a command that brings something to a desk or has it post, and answers it. An error means out of memory.
+    /// Does a command that brings something to a desk or has it post, or a malformed one, and answers it. The error is always
+    /// [`StreamFault::Memory`].
     fn answer(&mut self, command: &Command<'_>) -> Result<Answer, StreamFault>
         requires { MovesSomething (order_of command.now) }
         ensures answers { IfOk result (λ answer.
@@ -138,7 +139,7 @@ fn delivery(alloc: Global, desk: u64, text: &[u8]) -> Result<Event, AllocError>
     })
 }
 
-/// What is answered where this came of an event.
+/// The answer to an event with this outcome.
 fn answer_to(event: &Event, outcome: Outcome) -> Answer
     ensures answer { answer_of result ≡ answer_to event.now outcome }
     ensures tick { HasTick outcome }
@@ -150,7 +151,7 @@ fn answer_to(event: &Event, outcome: Outcome) -> Answer
     }
 }
 
-/// What is answered where a desk has heard a message or a packet.
+/// The answer if a desk has heard a message or a packet.
 fn heard_at(event: &Event, heard: Heard) -> Answer
     ensures { answer_of result ≡ heard_at event.now heard.tick heard.changed }
 {

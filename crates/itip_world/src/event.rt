@@ -8,16 +8,16 @@ use itip_lines::Bytes;
 /// What happens to a world of desks. Desks and packets are numbered from 0.
 #[derive(Debug, Drop)]
 pub enum Event {
-    /// A text comes to a desk: it hears the items of the message, and nothing where the text is refused.
+    /// A text reaches a desk, which hears the items of the message, or nothing if the text is refused.
     Deliver { desk: usize, bytes: Bytes },
-    /// A desk posts what changed there after a tick: the next packet.
+    /// A desk posts what changed there after a tick, as the next packet.
     Post { desk: usize, since: u64 },
-    /// A packet comes to a desk, for the first time or again.
+    /// A packet reaches a desk, for the first time or again.
     Arrive { packet: usize, desk: usize },
 }
 
 impl Event {
-    /// The desk that it names.
+    /// The desk that the event names.
     pub(crate) fn desk(&self) -> usize
         ensures { result ≡ desk_of self.now }
     {
@@ -36,6 +36,6 @@ pub enum Outcome {
     Heard { tick: u64, changed: usize },
     /// The number of the packet, and how many items it has.
     Posted { packet: usize, items: usize },
-    /// Why the text was refused; the desk is as before.
+    /// Why the text was refused; the desk is unchanged.
     Refused(Refusal),
 }

@@ -12,8 +12,8 @@ use itip_desk::{Batch, Desk, DeskError, Refusal, read_batch, read_delta};
 use itip_message::ReadError;
 use std::alloc::Global;
 
-/// The desk of this number hears the items of a message. Where the text is refused, or out of memory, or where a UID would move at
-/// the last tick, it hears nothing.
+/// The desk with this number hears the items of a message. It hears nothing if the text is refused, if an allocation fails, or if a UID
+/// would move at the last tick.
 pub(crate) fn hear_message(
     alloc: Global,
     desk: &mut Desk,
@@ -28,7 +28,7 @@ pub(crate) fn hear_message(
     hear_batch(desk, number, &batch)
 }
 
-/// The desk of this number hears the items of a delta; or nothing, as of a message.
+/// The desk with this number hears the items of a delta; or nothing, as with a message.
 pub(crate) fn hear_delta(
     alloc: Global,
     desk: &mut Desk,
@@ -43,7 +43,7 @@ pub(crate) fn hear_delta(
     hear_batch(desk, number, &batch)
 }
 
-/// What was read, or why it wasn't.
+/// The batch that was read, or why none was.
 fn read(found: Result<Batch, ReadError>) -> Result<Batch, Cause>
     ensures { result ≡ read_as found }
 {
@@ -54,7 +54,7 @@ fn read(found: Result<Batch, ReadError>) -> Result<Batch, Cause>
     }
 }
 
-/// The desk of this number hears a batch.
+/// The desk with this number hears a batch.
 pub(crate) fn hear_batch(desk: &mut Desk, number: usize, batch: &Batch) -> Result<Heard, Cause>
     ensures hears { IfOk result (λ heard. HearsBatch desk.old batch.now desk.new (heard_as heard.tick heard.changed)) }
     ensures now { IfOk result (HearsNow desk.old batch.now desk.new) }
@@ -63,7 +63,7 @@ pub(crate) fn hear_batch(desk: &mut Desk, number: usize, batch: &Batch) -> Resul
 {
     match desk.take(batch) {
         Ok(changed) => {
-            // No code: it tells the proof that the desk has each kept item once.
+            // No code: this tells the proof that the desk has each kept item once.
             desk.state().lawful();
             Ok(Heard {
                 tick: changed.tick,

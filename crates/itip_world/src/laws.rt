@@ -1,4 +1,4 @@
-//! The laws of a script's output, and of a stream. They hold with no code: the functions are empty.
+//! The laws of the output of a script, and of a stream. The functions are empty: their contracts are the laws.
 ghost use Rattle.std.specs.Prelude.{◌≡◌, ◌++◌, ℕ, Bool, List, Option};
 ghost use Rattle.std.specs.List.{All};
 ghost use Rattle.itip_desk.specs.Desk.{Shown};
@@ -8,7 +8,7 @@ ghost use Rattle.itip_world.specs.Running.{IsOutput, Writes};
 ghost use Rattle.itip_world.specs.Serving.{Served, RunsStream};
 ghost use Rattle.itip_view.specs.declared.window.Window.{Window};
 
-/// A script has one output, and what the first so many commands write is a front of it.
+/// A script has one output, and what a prefix of its commands writes is a prefix of that output.
 pub fn one_output()
     ensures output { (window : Window) (desks : ℕ) (script first second : List ℕ) (refusal other : Bool) →
         IsOutput window desks script first refusal → IsOutput window desks script second other → (first ≡ second) × (refusal ≡ other) }
@@ -17,8 +17,8 @@ pub fn one_output()
         (rest : List ℕ) × (output ≡ part ++ rest) }
 {}
 
-/// Each desk of a stream that began with nothing, or with what a file told, is told whole by its file whenever it is saved: so a
-/// desk that begins with that file keeps the same, and sends the same since every tick.
+/// If each desk of a stream began with nothing or with what a file told, its file tells it completely whenever it is saved: a desk that
+/// begins with that file keeps the same, and sends the same since every tick.
 pub fn desks_saved_whole()
     ensures { (window : Window) (input left : Option (List ℕ)) (desks after : List Shown) (served : List Served) →
         RunsStream window input desks served left after → All IsTold desks → All IsTold after }

@@ -1,6 +1,6 @@
-//! Worlds of desks: messages and packets come to desks, late, twice and in any order, and each desk keeps what the rules keep of all
-//! that it has heard. A script is run over one world, command by command, and a stream of commands over desks that
-//! may have been read from files.
+//! Worlds of desks: messages and packets reach desks late, twice and in any order, and each desk keeps what the rules keep of all that it
+//! has heard. A script runs over one world, command by command, and a stream of commands runs over desks that may have been read from
+//! files.
 #![tactic(auto)]
 
 mod answer;

@@ -1,5 +1,5 @@
-//! The answers to the commands that ask a desk for its list, its entries, for reports, for messages to send again and for sequences,
-//! and leave it as it is. A script and a stream give the same.
+//! The answers to the commands that ask a desk for its list, its entries, reports, messages to send again or sequences, and leave it
+//! unchanged. A script and a stream give the same answers.
 ghost use Rattle.std.specs.Prelude.{◌≡◌, ◌≢◌, IfOk, IfErr, OnErr};
 ghost use Rattle.std.specs.Option.{option_map};
 ghost use Rattle.itip_view.specs.ByUid.{AreAsked};
@@ -34,9 +34,9 @@ impl<'a> Look<'a> {
     ghost use Rattle.std.specs.Prelude.{◌≤◌, Some, MatchOption, length, slice_get};
     ghost use Rattle.std.specs.Option.{option_copied};
 
-    /// Answers a command that only asks a desk, and says why it was refused, if it was. The answer is put behind the octets that are
-    /// kept to be written; where it is a list, they are written once they are 65,536 or more. After a fault a front of what is kept was
-    /// written, or of that and of the answer.
+    /// Answers a command that only asks a desk, and returns why it was refused, if it was. The answer is appended to the bytes in `kept`,
+    /// which are to be written; if it is a list, they are written once there are 65,536 or more. On an error, a prefix of `kept` has been
+    /// written, or of `kept` and the answer.
     pub(crate) fn reply<W: Write>(
         &self,
         command: &Command<'_>,
@@ -57,7 +57,7 @@ impl<'a> Look<'a> {
         }
     }
 
-    /// Answers a command that asks a desk for no list.
+    /// Answers a command that asks a desk, but not for a list.
     fn answer(&self, command: &Command<'_>) -> Result<Answer, StreamFault>
         requires { AsksBriefly (order_of command.now) }
         ensures answers { IfOk result (λ answer. Looks self.now.window self.now.desks.now (order_of command.now) (answer_of answer)) }
@@ -72,7 +72,7 @@ impl<'a> Look<'a> {
         }
     }
 
-    /// The desk of a number.
+    /// The desk with this number, if there is one.
     pub(crate) fn desk(&self, desk: u64) -> Option<&Desk>
         ensures { MatchOption (option_copied result) (length self.now.desks.now ≤ desk)
             (λ shown. slice_get self.now.desks.now desk ≡ Some shown) }
@@ -101,7 +101,7 @@ impl<'a> Look<'a> {
         Ok(refused_for(most))
     }
 
-    /// Writes the list of a desk, of the rows that show the attendee of an address.
+    /// Writes the list of a desk, with the rows that show the attendee with this address.
     fn list_for<W: Write>(
         &self,
         desk: u64,
@@ -154,7 +154,7 @@ impl<'a> Look<'a> {
         }
     }
 
-    /// Answers with the messages that a desk sends again of a UID.
+    /// Answers with the messages that a desk sends again for a UID.
     fn resend(&self, desk: u64, uid: &[u8]) -> Result<Answer, StreamFault>
         ensures answers { IfOk result (λ answer. Looks self.now.window self.now.desks.now (resends desk uid.now) (answer_of answer)) }
         ensures fault { IfErr result (λ fault. fault ≡ StreamFault.Memory) }
@@ -179,7 +179,7 @@ impl<'a> Look<'a> {
     }
 }
 
-/// Puts an answer behind the octets that are kept to be written, and says why the command was refused, if it was.
+/// Appends an answer to the bytes in `kept`, which are to be written, and returns why the command was refused, if it was.
 pub(crate) fn told(answer: Answer, kept: &mut Vec<u8>) -> Result<Option<Refused>, StreamFault>
     ensures told { IfOk result (IsTold (answer_of answer) kept.old.items kept.new.items) }
     ensures fault { IfErr result (λ fault. fault ≢ StreamFault.Read) }
@@ -188,14 +188,14 @@ pub(crate) fn told(answer: Answer, kept: &mut Vec<u8>) -> Result<Option<Refused>
     Ok(answer.refused())
 }
 
-/// Why a command is refused, where this to-do has the most of too many rows.
+/// Why a command is refused, if there are too many rows, of which this to-do has the most.
 fn refused_for(most: Option<MostRows>) -> Option<Refused>
     ensures { option_map (λ r. r.refusal) result ≡ option_map (λ _. Refusal.TooManyRows) most }
 {
     Some(Refused::of_most(most?))
 }
 
-/// The rows of a desk that a report tells of: none where it tells of no rows.
+/// The rows of a desk that a report is about: none if it isn't about rows.
 fn report_rows(
     alloc: Global,
     desk: &Desk,
@@ -211,7 +211,7 @@ fn report_rows(
     }
 }
 
-// The address of an attendee is a text, so octets that are none show in no row.
+// The address of an attendee is UTF-8, so no row shows one that isn't.
 fn rows_for<'a>(
     alloc: Global,
     desk: &'a Desk,
@@ -226,7 +226,7 @@ fn rows_for<'a>(
     }
 }
 
-// The UID of an item is a text, so octets that are none name no to-do.
+// The UID of an item is UTF-8, so bytes that aren't name no to-do.
 fn messages_of(alloc: Global, state: &State, uid: &[u8]) -> Result<Option<Vec<u8>>, AllocError>
     ensures { IfOk result (λ messages. IsResendOf state.now uid.now (option_map (λ bytes. bytes.items) messages)) }
 {
@@ -236,7 +236,7 @@ fn messages_of(alloc: Global, state: &State, uid: &[u8]) -> Result<Option<Vec<u8
     }
 }
 
-// The UID of an item is a text, so octets that are none name no to-do, and nothing was used of it.
+// The UID of an item is UTF-8, so bytes that aren't name no to-do, and no sequence was used for it.
 fn sequence_of(alloc: Global, state: &State, uid: &[u8]) -> Result<Option<u32>, AllocError>
     ensures { IfOk result (λ sequence. IsNext state.now uid.now sequence) }
 {

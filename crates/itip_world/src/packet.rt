@@ -6,7 +6,7 @@ use itip_desk::{Batch, write_delta};
 use std::alloc::Global;
 use std::marker::Model;
 
-/// The octets of a batch: whoever reads them gets this batch and no refusal. It holds the batch, and its octets are written where
+/// The bytes of a batch: reading them gives this batch, and is never refused. A packet holds the batch, and its bytes are written when
 /// they are asked for.
 #[derive(Debug, Drop)]
 pub struct Packet {
@@ -31,16 +31,16 @@ impl Packet {
     ghost use Rattle.itip_desk.specs.Octets.{AscendOctets};
     ghost use Rattle.itip_desk.specs.Delta.{delta_octets, IsDelta};
 
-    /// The octets of a batch. It takes no memory.
+    /// The bytes of a batch. Doesn't allocate.
     pub(crate) fn of_batch(batch: Batch) -> Packet
         ensures { result ≡ delta_octets batch }
     {
-        // No code: it tells the proof that the items ascend.
+        // No code: this tells the proof that the items ascend.
         batch.lawful();
         Packet { batch }
     }
 
-    /// The octets, written by [`write_delta`](itip_desk::write_delta). Where there are none, it takes no memory.
+    /// Returns the bytes, written by [`write_delta`](itip_desk::write_delta). If there are none, it doesn't fail.
     pub fn octets(&self, alloc: Global) -> Result<Vec<u8>, NoMemory>
         ensures octets { IfOk result (λ octets. octets.items ≡ self.now) }
         ensures delta { IsDelta self.now }
@@ -49,7 +49,7 @@ impl Packet {
         write_delta(alloc, &self.batch)
     }
 
-    /// The batch, which is what [`read_delta`](itip_desk::read_delta) gives of the octets.
+    /// Returns the batch, which is what [`read_delta`](itip_desk::read_delta) reads from the bytes.
     pub fn batch(&self) -> &Batch
         ensures octets { self.now ≡ delta_octets result.now }
         ensures ascend { AscendOctets result.now }

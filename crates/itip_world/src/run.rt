@@ -15,11 +15,11 @@ pub struct Ran {
     pub outcomes: Vec<Outcome>,
 }
 
-/// Runs events in order over desks that have heard nothing. Each desk keeps what is kept of all that it has heard, and
-/// each packet has the canonical octets of what was kept of the UIDs that it tells of.
+/// Runs events in order over 1 to 16 desks that have heard nothing. Each desk keeps what is kept of all that it has heard, and each
+/// packet has the canonical bytes of what was kept of the UIDs that it tells of.
 ///
-/// Where an event is not done the run stops: `Stopped` has how many events were done, the world after them, what came of each and the
-/// cause. If there is no memory for the start, no event is done and the world has no desk.
+/// The run stops at an event that can't be done: [`Stopped`] has the number of events that were done, the world after them, what came of
+/// each, and the cause. If there is no memory for the start, no event is done and the world has no desks.
 pub fn run_world(alloc: Global, desks: usize, events: &[Event]) -> Result<Ran, Stopped>
     requires some { 1 ≤ desks }
     requires few { desks ≤ 16 }
@@ -55,7 +55,7 @@ pub fn run_world(alloc: Global, desks: usize, events: &[Event]) -> Result<Ran, S
     Ok(Ran { world, outcomes })
 }
 
-/// A run before its first event, with room for the outcomes of this many.
+/// A run before its first event, with room for `events` outcomes.
 fn start(alloc: Global, desks: usize, events: usize) -> Result<Ran, NoMemory>
     ensures world { IfOk result (λ ran. IsWorldOf (no_past desks) ran.world) }
     ensures outcomes { IfOk result (λ ran. ran.outcomes.items ≡ []) }

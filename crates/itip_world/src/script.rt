@@ -16,10 +16,10 @@ use itip_view::Window;
 use std::alloc::Global;
 use std::io::{Read, Write};
 
-/// Runs a script over desks that have heard nothing, and says whether an answer was a refusal.
+/// Runs a script over 1 to 16 desks that have heard nothing, and returns whether any answer was a refusal.
 ///
-/// The whole script is read before anything is written. A script of more than [`MAX_OCTETS`](itip_script::MAX_OCTETS)
-/// is refused as a whole (61). After a fault of reading nothing was written, after another fault a front of the output.
+/// The whole script is read before anything is written. A script of more than [`MAX_OCTETS`](itip_script::MAX_OCTETS) bytes is refused as
+/// a whole (61). On [`StreamFault::Read`] nothing has been written; on another error, a prefix of the output has.
 pub fn run_script<R: Read, W: Write>(
     alloc: Global,
     reader: &mut R,
@@ -38,8 +38,8 @@ pub fn run_script<R: Read, W: Write>(
     run_script_watched(alloc, reader, writer, desks, window, &mut ())
 }
 
-/// Runs a script as [`run_script`] does. Beside the output `watch` is told of each command that was answered; of none where
-/// the script could not be read.
+/// Runs a script as [`run_script`] does. `watch` is told of each command that was answered, or that the script was refused as a whole; on
+/// [`StreamFault::Read`], of nothing.
 pub fn run_script_watched<R: Read, W: Write, T: Watch>(
     alloc: Global,
     reader: &mut R,
@@ -77,7 +77,7 @@ fn refuse_whole<W: Write>(alloc: Global, writer: &mut W) -> Result<bool, StreamF
     Ok(true)
 }
 
-// Runs the commands of a script over desks that have heard nothing. No answer is held as a whole but a report, and messages to send.
+// Runs the commands of a script over desks that have heard nothing. Lists are never held whole; reports and messages to send again are.
 fn run_commands<W: Write, T: Watch>(
     asked: &mut Desks,
     script: &[u8],

@@ -25,13 +25,13 @@ use itip_view::Window;
 use std::alloc::Global;
 use std::io::{Read, Write};
 
-// Why a message is refused of which no octet is held.
+// Why a message that is too long to hold is refused.
 const LONG_MESSAGE: LineRefusal = LineRefusal {
     cause: LineCause::TooLong,
     line: None,
 };
 
-/// The desks of a stream, and the window of lists. Nothing is kept of what they were sent or answered.
+/// The desks of a stream, and the window of lists. Neither what was read nor the answers are held.
 #[derive(Drop)]
 pub(crate) struct Served {
     pub(crate) alloc: Global,
@@ -40,10 +40,10 @@ pub(crate) struct Served {
 }
 
 impl Served {
-    /// Reads one command, does it and writes its answer, all of which is done before an octet behind the command is read. It says
-    /// whether the command was refused; `None` where the input is at its end.
+    /// Reads one command, does it and writes its answer, before any byte after the command is read. Returns whether the command was
+    /// refused, or `None` at the end of the input.
     ///
-    /// After a fault nothing was written, or a front of the answer.
+    /// On an error, nothing or a prefix of the answer has been written.
     pub(crate) fn step<R: Read, W: Write, S: Shelf, T: Watch>(
         &mut self,
         reader: &mut R,
@@ -67,9 +67,9 @@ impl Served {
         Ok(Some(refused))
     }
 
-    /// Does what a line asks for, whose octets are still to be read, and writes the answer. It says whether that is a refusal.
+    /// Reads the bytes that belong to a line, does what it asks for, and writes the answer. Returns whether that is a refusal.
     ///
-    /// After a fault nothing was written, or a front of the answer.
+    /// On an error, nothing or a prefix of the answer has been written.
     fn answer_to<R: Read, W: Write, S: Shelf, T: Watch>(
         &mut self,
         asked: &StreamLine<'_>,
@@ -94,8 +94,8 @@ impl Served {
         Ok(refused.is_some())
     }
 
-    /// Does what a line asks for, and says why it was refused, if it was. The answer is put behind the octets that are kept to be
-    /// written; where it is a list, they are written once they are 65,536 or more.
+    /// Does what a line asks for, and returns why it was refused, if it was. The answer is appended to the bytes in `kept`, which are to
+    /// be written; if it is a list, they are written once there are 65,536 or more.
     fn reply<R: Read, W: Write, S: Shelf>(
         &mut self,
         asked: &StreamLine<'_>,
@@ -161,7 +161,7 @@ impl Served {
         }
     }
 
-    /// A desk takes the message that a text is.
+    /// A desk takes a text as a message.
     fn take_text(&mut self, desk: u64, text: &[u8]) -> Result<Answer, StreamFault>
         ensures serves { IfOk result (λ answer. (window : Window) →
             Serves window self.old.desks.items (take desk (whole text.now)) (Some (answer_of answer)) self.new.desks.items) }
@@ -197,7 +197,7 @@ impl Served {
         }
     }
 
-    /// The delta that these octets are reaches a desk.
+    /// These bytes reach a desk as a delta.
     fn arrive_octets(&mut self, desk: u64, octets: &[u8]) -> Result<Answer, StreamFault>
         ensures serves { IfOk result (λ answer. (window : Window) →
             Serves window self.old.desks.items (arrive desk (whole octets.now)) (Some (answer_of answer)) self.new.desks.items) }
@@ -215,7 +215,7 @@ impl Served {
         }
     }
 
-    /// What is answered where octets for a desk are refused. Perhaps there is no such desk.
+    /// The answer if bytes for a desk are refused, or if there is no such desk.
     fn refused_at(&self, desk: u64, refusal: Refusal) -> Answer
         ensures { RefusesAt self.now.desks.items desk refusal (answer_of result) }
     {
@@ -245,7 +245,7 @@ impl Served {
         })
     }
 
-    /// A desk is saved. Where it can't be, that is the answer.
+    /// Saves a desk. If it can't be saved, that is the answer, except that running out of memory is an error.
     fn save<S: Shelf>(&self, desk: u64, file: &[u8], shelf: &mut S) -> Result<Answer, StreamFault>
         ensures serves { IfOk result (λ answer. (window : Window) →
             Serves window self.now.desks.items (save desk file.now) (Some (answer_of answer)) self.now.desks.items) }
@@ -269,8 +269,8 @@ impl Served {
     }
 }
 
-/// What a line that was read asks for, or `None` where nothing was left. Of a line that is too long nothing is known, and neither of
-/// one without a line end, which may have been cut off.
+/// What a line that was read asks for, or `None` if nothing was left. Nothing is known of a line that is too long, nor of one without a
+/// line end, which may have been cut off.
 fn asked_by(found: Option<&[u8]>) -> Option<StreamLine<'_>>
     ensures asks { AsksBy (option_copied found.entry) (option_map wish_of result) }
     ensures only { IfSome result (λ asked. AsksOnly (wish_of asked)) }
@@ -293,7 +293,7 @@ fn unwritten(desk: u64) -> Answer
     Answer::Refused(Refusal::File(FileRefusal::Unwritten { desk }))
 }
 
-/// What is answered where a desk heard nothing for this cause.
+/// The answer if a desk heard nothing for this cause.
 fn unheard(cause: Cause) -> Result<Answer, StreamFault>
     ensures refused { IfOk result (λ answer. (why : Refusal) → cause ≡ Cause.Refused why → answer_of answer ≡ refused why) }
     ensures some { OnOk result (cause ≢ Cause.NoMemory) }

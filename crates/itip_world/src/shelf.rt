@@ -4,7 +4,7 @@ use itip_streams::StreamFault;
 
 /// Where desks are saved, each under a name.
 pub trait Shelf {
-    /// Puts a desk in the place of what has this name, by [`write_desk`](itip_desk::write_desk), once it is there for good. After a
-    /// fault what was there before still is.
+    /// Writes a desk by [`write_desk`](itip_desk::write_desk), and once it is stored durably replaces what has this name with it. On an
+    /// error, what was there before is unchanged.
     fn save(&mut self, name: &str, desk: &Desk) -> Result<(), StreamFault>;
 }

@@ -14,7 +14,7 @@ pub enum Cause {
     /// An allocation failed (20).
     #[error("no memory for an event")]
     NoMemory,
-    /// No desk (50) or no packet (51) has the number, or a UID would move at the last tick (21).
+    /// No desk (50) or no packet (51) has this number, or a UID would move at the last tick (21).
     #[error("{0}")]
     Refused(Refusal),
 }

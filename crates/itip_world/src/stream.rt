@@ -11,11 +11,10 @@ use itip_view::Window;
 use std::alloc::Global;
 use std::io::{Read, Write};
 
-/// Serves a stream of commands over these desks until its end, and says whether an answer was a refusal.
+/// Serves a stream of commands over these desks until its end, and returns whether any answer was a refusal.
 ///
-/// Each command is answered, and its answer written, before an octet behind it is read; nothing is kept of either. Beside the
-/// output `watch` is told of each command that was answered. After a fault the answers to the first so many commands were written, and a
-/// front of the next.
+/// Each command is answered, and its answer written, before any byte after it is read; neither is held afterwards. `watch` is told of
+/// each command that was answered. On an error, the answers so far have been written, and at most a prefix of the next.
 pub fn run_stream<R: Read, W: Write, S: Shelf, T: Watch>(
     alloc: Global,
     reader: &mut R,

@@ -14,7 +14,7 @@ use itip_report::ReportName;
 use std::alloc::AllocError;
 
 impl Answer {
-    /// Appends the text of the answer. If an allocation fails a part of it may be there.
+    /// Appends the text of the answer. If an allocation fails, a part of it may have been appended.
     pub(crate) fn append(&self, output: &mut Vec<u8>) -> Result<(), AllocError>
         ensures { OnOk result (output.new.items ≡ output.old.items ++ answer_text (answer_of self.now)) }
     {
@@ -81,7 +81,7 @@ fn append_counted(output: &mut Vec<u8>, desk: u64, entries: usize) -> Result<(),
     output.extend_from_slice(line.as_bytes())
 }
 
-/// Appends the lines of a report, after the line that says how many there are.
+/// Appends the lines of a report, after a line that says how many there are.
 fn append_reported(
     output: &mut Vec<u8>,
     desk: u64,
@@ -107,7 +107,7 @@ fn append_lines(output: &mut Vec<u8>, lines: &[String]) -> Result<(), AllocError
     Ok(())
 }
 
-/// Appends the messages that a desk sends again, after the line that says how many octets they have, or that there are none.
+/// Appends the messages that a desk sends again, after a line with their length in bytes, or a line that says that there are none.
 fn append_resent(output: &mut Vec<u8>, desk: u64, messages: Option<&[u8]>) -> Result<(), AllocError>
     ensures { OnOk result (output.new.items ≡ output.old.items ++ resent_text desk (option_map (λ bytes. bytes.now) messages.entry)) }
 {
@@ -134,7 +134,7 @@ fn append_next(output: &mut Vec<u8>, desk: u64, next: Option<u32>) -> Result<(),
     output.extend_from_slice(line.as_bytes())
 }
 
-/// Appends the octets of a delta, after the line that says how many they are.
+/// Appends the bytes of a delta, after a line that says how many there are.
 fn append_sent(
     output: &mut Vec<u8>,
     desk: u64,

@@ -1,4 +1,4 @@
-//! Who is told how commands were answered.
+//! Watching how commands are answered.
 ghost use Rattle.std.specs.Prelude.{◌≡◌};
 
 use itip_desk::Refusal;
@@ -8,7 +8,7 @@ use itip_view::MostRows;
 #[derive(Debug, Drop)]
 pub struct Refused {
     pub refusal: Refusal,
-    /// Where there are too many rows, the to-do that has the most of them.
+    /// If there are too many rows, the to-do with the most of them.
     pub most: Option<MostRows>,
 }
 
@@ -24,9 +24,9 @@ impl Refused {
     }
 }
 
-/// What is told of a script or a stream beside the output. Nothing that is read or written depends on it.
+/// Is told how the commands of a script or a stream were answered. Nothing that is read or written depends on it.
 pub trait Watch {
-    /// The next command was answered, or refused. It is given by what it is called.
+    /// The next command was answered, or refused. `command` is what it is called, such as `take`.
     fn answered(&mut self, command: &'static str, refused: Option<&Refused>);
 
     /// The script was refused as a whole.

@@ -13,7 +13,7 @@ use itip_message::ReadError;
 use std::alloc::Global;
 use std::marker::Model;
 
-/// Desks that exchange nothing but what events bring, and what they posted. Each world has a past: the steps by which its desks and
+/// Desks that exchange only what events bring, and the packets that they posted. Each world has a past: the steps by which its desks and
 /// packets came about, from desks that had heard nothing.
 #[derive(Debug, Drop)]
 pub struct World {
@@ -37,14 +37,14 @@ impl Model for World {
 }
 
 impl World {
-    /// A world of desks that have heard nothing, at tick 0.
+    /// Returns a world of desks that have heard nothing, at tick 0.
     pub fn start(alloc: Global, desks: usize) -> Result<World, NoMemory>
         ensures world { IfOk result (λ world. IsWorldOf (no_past desks) world) }
     {
         World::start_at(alloc, desks, 0)
     }
 
-    /// A world of desks that have heard nothing, at this tick.
+    /// Returns a world of desks that have heard nothing, at this tick.
     pub fn start_at(alloc: Global, desks: usize, tick: u64) -> Result<World, NoMemory>
         ensures world { IfOk result (λ world. IsWorldOf (past_from desks tick) world) }
     {
@@ -59,7 +59,7 @@ impl World {
         })
     }
 
-    /// A world of no desk. It takes no memory.
+    /// A world without desks. Doesn't allocate.
     pub(crate) fn empty(alloc: Global) -> World
         ensures { result ≡ empty_world }
     {
@@ -78,25 +78,25 @@ impl World {
         self.desks.as_slice()
     }
 
-    /// What the desks posted, numbered from 0.
+    /// The packets that the desks posted, numbered from 0.
     pub fn packets(&self) -> &[Packet]
         ensures { result.now ≡ self.now.packets }
     {
         self.packets.as_slice()
     }
 
-    /// The number of items that a desk keeps of all that it has heard, each counted once: `usize::MAX` where there are
-    /// more, `None` where there is no desk of this number. It takes no memory, and each UID is looked at once.
+    /// Returns the number of items that a desk keeps of all that it has heard, each counted once: `usize::MAX` if there are more, `None`
+    /// if no desk has this number. It doesn't allocate, and looks at each UID once.
     pub fn entries(&self, desk: usize) -> Option<usize>
         ensures { MatchOption result (length self.now.desks ≤ desk) (λ count. IsEntriesOf self.now desk count) }
     {
         Some(self.desks.get(desk)?.entries())
     }
 
-    /// One event, and what came of it: a delivery or an arrival is heard by the desk, and a post is its delta since a tick.
+    /// Does one event, and returns what came of it: a delivery or an arrival is heard by the desk, and a post is its delta since a tick.
     ///
-    /// A refused text is an outcome and moves no desk. An event is not done, and leaves the world as it was, if there is no desk of its
-    /// number (50), no packet of its number (51), if an allocation fails (20), or if a UID would move at the last tick (21).
+    /// A refused text is an outcome and moves no desk. An event fails, and leaves the world unchanged, if no desk (50) or no packet (51)
+    /// has its number, if an allocation fails (20), or if a UID would move at the last tick (21).
     pub fn step(&mut self, event: &Event) -> Result<Outcome, Cause>
         ensures past { HasPast self.old }
         ensures step { IfOk result (λ outcome. Steps self.old event.now outcome self.new) }
@@ -123,7 +123,7 @@ impl World {
         }
     }
 
-    /// A desk that is there hears the items of a text, or nothing where the text is refused.
+    /// An existing desk hears the items of a text, or nothing if the text is refused.
     fn deliver(&mut self, desk: usize, bytes: &[u8]) -> Result<Outcome, Cause>
         requires { desk < length self.old.desks }
         ensures step { IfOk result (λ outcome. Steps self.old (Event.Deliver desk bytes.now) outcome self.new) }
@@ -141,7 +141,7 @@ impl World {
         hear(&mut self.desks[desk], desk, &batch)
     }
 
-    /// A desk that is there posts what changed there after a tick.
+    /// An existing desk posts what changed there after a tick.
     fn post(&mut self, desk: usize, since: u64) -> Result<Outcome, NoMemory>
         requires { desk < length self.old.desks }
         ensures step { IfOk result (λ outcome. Steps self.old (Event.Post desk since) outcome self.new) }
@@ -159,7 +159,7 @@ impl World {
         })
     }
 
-    /// A packet that is there comes to a desk that is there.
+    /// An existing packet reaches an existing desk.
     fn arrive(&mut self, packet: usize, desk: usize) -> Result<Outcome, Cause>
         requires packet { packet < length self.old.packets }
         requires desk { desk < length self.old.desks }
@@ -173,7 +173,7 @@ impl World {
     }
 }
 
-/// The desk of this number hears a batch.
+/// The desk with this number hears a batch.
 fn hear(desk: &mut Desk, number: usize, batch: &Batch) -> Result<Outcome, Cause>
     ensures hears { IfOk result (λ outcome. HearsBatch desk.old batch.now desk.new outcome) }
     ensures cause { IfErr result (λ cause. StopsHearing number desk.old batch.now cause) }

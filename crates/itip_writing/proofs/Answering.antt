@@ -50,7 +50,7 @@ module _ (heard : List Item) (key wanted : Key) (same : key ≡ wanted) (own seq
         (spent_of_latest (IsEqualRevision heard (key ∷ []) sequence) at latest is_latest spent);
   }
 
--- ---- a wish for the newest revision, whose key is found as `key`
+-- ---- a refresh request, whose key is found as `key`
 
 module _ (heard : List Item) (key wanted : Key) (same : key ≡ wanted) (item : Item) (equal : Option Stamp)
     (is_latest : IsLatestOf (IsEqualRevision heard (key ∷ []) 0) equal) (at latest : Stamp) (is : latest ≡ later_stamp equal item.stamp)

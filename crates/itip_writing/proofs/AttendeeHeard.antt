@@ -1,4 +1,4 @@
--- One item of an attendee is heard: what stands and governs stays, and it is the best of its key where it is later than the kept one.
+-- One item of an attendee is heard: what stands and governs stays, and it is the best of its key if it is later than the kept one.
 use Rattle.std.proofs.Common.{◌≡◌, ◌↔◌, ◌∙◌, ℕ, ◌<◌, ◌≤◌, List, [], ◌∷◌, ◌++◌, refl, sym, ap, subst, ◌⊎◌, inl, inr, arith, Option, Some}
 use Rattle.std.proofs.Common.{None}
 use Rattle.std.specs.List.{Contains}
@@ -116,7 +116,7 @@ module _ (heard : List Item) (new : Item) where
       not_new : (j : Item) → j ≡ new → j.key ≡ k → ⊥
       not_new j is same = other (subst IsTask (sym same ∙ ap (λ (i : Item). i.key) is) task)
 
-  -- the item is the best of its key, where it is later than the kept one and above each that is dead
+  -- the item is the best of its key if it is later than the kept one and above each that is dead
   module _ (earlier : (b : Item) → IsKept heard b → b.key ≡ new.key → IsLater new b)
       (above : (b : Item) → IsBest heard new.key b → IsDead heard b → b.eff < new.eff) where
     not_over : (b : Item) → IsBest heard new.key b → ¬ IsLater b new
@@ -140,7 +140,7 @@ module _ (heard : List Item) (new : Item) where
       ];
     }
 
--- ---- who is shown where an item governs
+-- ---- who is shown if an item governs
 
 module _ (heard : List Item) where
   -- an answer counts, or none does

@@ -1,4 +1,4 @@
--- An answer and a wish for the newest revision are read as the to-dos that they were made of.
+-- An answer and a refresh request are read as the to-dos that they were made of.
 use Rattle.std.proofs.Common.{◌≡◌, ◌∙◌, ℕ, ◌<◌, ◌≤◌, ◌⊎◌, inl, inr, List, [], ◌∷◌, length, map, refl, sym, ap, subst, arith, Option, Some}
 use Rattle.std.proofs.Common.{None, false}
 use Rattle.std.specs.Prelude.{IsTrue, codes}

@@ -1,4 +1,4 @@
--- What cancels and what removes attendees is the same of two sets of items that keep the same of the UID.
+-- What cancels or removes attendees is the same for two sets of items that keep the same of the UID.
 use Rattle.std.proofs.Common.{◌≡◌, ℕ, List, [], ◌∷◌, refl, sym, subst, inl, inr, Bool, true, false, Option, Some, None}
 use Rattle.itip_moment.specs.declared.moment.Moment.{Moment}
 use Rattle.itip_moment.specs.declared.stamp.Stamp.{Stamp}

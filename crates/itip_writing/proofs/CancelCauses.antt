@@ -1,4 +1,4 @@
--- Why nothing is cancelled and no attendee is removed, and that what has the next sequence is written at its moment.
+-- Why nothing is cancelled and no attendee is removed, and that what has the next sequence has its own moment as DTSTAMP.
 use Rattle.std.proofs.Common.{◌≡◌, ℕ, ◌<◌, List, [], ◌∷◌, refl, subst, inl, inr, arith, Bool, true, false, Option, Some, None}
 use Rattle.std.specs.List.{Contains}
 use Rattle.itip_moment.specs.declared.moment.Moment.{Moment}

@@ -1,4 +1,4 @@
--- What the to-dos of a CANCEL give: of each one item that cancels what its RECURRENCE-ID names, or each attendee's that it removes.
+-- What the to-dos of a CANCEL give: each one item that cancels what its RECURRENCE-ID names, or one for each attendee that it removes.
 use Rattle.std.proofs.Common.{◌≡◌, ◌∙◌, ℕ, List, [], ◌∷◌, ◌++◌, map, refl, sym, ap, subst, arith, Bool, true, false, Option, Some, None}
 use Rattle.std.proofs.Common.{append-nil}
 use Rattle.std.specs.Prelude.{max, cond, nat_eq, unwrap_or, ◌&&◌}

@@ -1,4 +1,4 @@
--- A cancellation with the next sequence is the latest of its key, and nothing stands where it says so.
+-- A cancellation with the next sequence is the latest of its key, and nothing stands where it cancels.
 use Rattle.std.proofs.Common.{◌≡◌, ◌<◌, ℕ, List, ◌++◌, refl, sym, ◌∙◌, ap, subst, inl, inr, true, false, arith, Some, None}
 use Rattle.std.specs.Prelude.{Bool}
 use Rattle.std.specs.List.{Contains}
@@ -47,7 +47,7 @@ module _ (heard items : List Item) (uid : List ℕ) (n : ℕ) (next : IsNext hea
   not_live : (i : Item) → Contains items i → IsLive i → ⊥
   not_live i h live = let x : true ≡ false = sym live ∙ ap is_live (new i h).0 in cc
 
-  -- where one of the items has a key, the best of it is one of them
+  -- if one of the items has a key, the best of that key is one of them
   best_is_new : (k : Key) → IsTask k → uid_of k ≡ uid → HasKey items k → (b : Item) → IsBest (heard ++ items) k b → Contains items b
   best_is_new k task of has b best = elim (Contains-append_cases heard items b best.is_heard) [
     | inl old ↦

@@ -1,4 +1,4 @@
--- The laws of messages that cancel and that remove attendees.
+-- The laws of messages that cancel or remove attendees.
 use Rattle.std.proofs.Common.{◌≡◌, ℕ, List, [], ◌∷◌, ◌++◌, Option, Some, None}
 use Rattle.std.specs.List.{Contains}
 use Rattle.itip_moment.specs.declared.moment.Moment.{Moment}
@@ -81,7 +81,7 @@ pub series_gone : (heard : List Item) (uid : List ℕ) (addresses : List (List �
 series_gone heard uid addresses at octets items is reads =
     removed_on_rows heard uid addresses at is.parts is.removes items (removed_items heard uid None addresses at octets is items reads)
 
--- ---- what is kept tells
+-- ---- it depends only on what is kept
 
 pub cancelling_of_kept : (uid : List ℕ) (id : Option Moment) (at : Stamp) (octets : List ℕ) →
     FollowsFromKept (λ heard. IsCancelling heard uid id at octets)

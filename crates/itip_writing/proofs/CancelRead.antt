@@ -1,4 +1,4 @@
--- The messages that cancel and that remove attendees are read as the to-dos that they were made of.
+-- The messages that cancel or remove attendees are read as the to-dos that they were made of.
 use Rattle.std.proofs.Common.{◌≡◌, ◌∙◌, ℕ, ◌<◌, ◌≤◌, List, [], ◌∷◌, length, map, refl, sym, ap, subst, arith, inl, inr, Bool, true, false}
 use Rattle.std.proofs.Common.{Option, Some, None}
 use Rattle.std.specs.Fmt.{decimal}
@@ -181,7 +181,7 @@ module _ (uid : List ℕ) (item : Item) (of : item.todo.uid ≡ uid) (id : Optio
         });
       }
 
--- where one is named, it can stand in RECURRENCE-ID
+-- if one is named, it can be written in RECURRENCE-ID
 named_params : (heard : List Item) (uid : List ℕ) (id : Option Moment) (item : Item) → IsInQuestion heard uid id item → (m : Moment) →
     id ≡ Some m → HasParams m
 named_params heard uid None item is m e = absurd cc

@@ -1,4 +1,4 @@
--- The octets of a message, put together of their parts.
+-- The bytes of a message, put together from their parts.
 use Rattle.std.proofs.Common.{◌≡◌, ◌≢◌, ◌∙◌, sym, ap, refl, ℕ, ◌+◌, ◌<◌, List, [], ◌∷◌, ◌++◌, length, take, get_or, append-nil}
 use Rattle.std.specs.Prelude.{codes}
 use Rattle.std.specs.List.{flat_map}
@@ -20,7 +20,7 @@ begin_todo = bare (codes "BEGIN") (codes "VTODO")
 abbrev end_todo : Content
 end_todo = bare (codes "END") (codes "VTODO")
 
--- a to-do of which few properties are written, one part after the other
+-- a to-do of which only a few properties are written, one part after the other
 pub brief_written : (m : Method) (b : BriefTodo) (o begun headed o1 o2 o3 o4 o5 ended : List ℕ)
     → begun ≡ o ++ contents_octets (begin_todo ∷ [])
     → headed ≡ begun ++ contents_octets (sent_head m (brief_parts b))
@@ -46,7 +46,7 @@ brief_written m b o begun headed o1 o2 o3 o4 o5 ended eb eh e1 e2 e3 e4 e5 ee =
     (then_lines begun o5 ended (inner_of m p) (end_todo ∷ []) inner ee)
     ∙ ap (λ (cs : List Content). o ++ contents_octets cs) (sym (sent_is m p))
 
--- all lines of a to-do are written but under REFRESH
+-- under every method but REFRESH all lines of a to-do are written
 pub all_lines : (m : Method) (p : Parts) → m ≢ method.Refresh → sent_todo m p ≡ todo_contents p
 all_lines method.Request p h = refl
 all_lines method.Add p h = refl

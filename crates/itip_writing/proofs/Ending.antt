@@ -1,4 +1,4 @@
--- The to-dos that cancel an instance and all after it are those that have to be, in their order.
+-- The to-dos that cancel an instance and all after it are the right ones, in their order.
 use Rattle.std.proofs.Common.{◌≡◌, ◌∙◌, ℕ, ◌+◌, List, [], ◌∷◌, map, refl, sym, ap, subst, ◌⊎◌, inl, inr, arith, Bool, true, false}
 use Rattle.std.proofs.Common.{Some}
 use Rattle.std.specs.Prelude.{cond}
@@ -47,7 +47,7 @@ after_reaches from at is =
 
 -- ---- the order of places is that of the to-dos
 
--- a later part of an order decides where it did before
+-- a later part of an order decides where it decided before
 then_weaker : (o x y : Ordering) → (x ≡ Less → y ≡ Less) → ordering_then o x ≡ Less → ordering_then o y ≡ Less
 then_weaker Less x y f e = refl
 then_weaker Equal x y f e = f e
@@ -97,7 +97,7 @@ by_keys uid (Range u x) (Range v y) h k e = by_ranks u v x y 1 1 (h ∙ sym k) e
 by_keys uid (Range u x) (Answer v y attendee) h k e = absurd k
 by_keys uid (Range u x) (Refresh v y attendee) h k e = absurd k
 
--- what holds of pairs of a list holds of what is made of them
+-- what holds of all pairs of a list holds of what is made of them
 mapped_pairs : (f : Item → Parts) (R : Item → Item → Type 0) (S : Parts → Parts → Type 0) (xs : List Item) → AllPairs R xs →
     ((a b : Item) → Contains xs a → Contains xs b → R a b → S (f a) (f b)) → AllPairs S (map f xs)
 mapped_pairs f R S [] pairs holds = no_pairs S
@@ -250,7 +250,7 @@ module _ (heard : List Item) (uid : List ℕ) (from : Moment) (item : Item) (gov
           subst (IsEnding heard uid from n stamp) i.is (later_ending i.from (reported.each i.from i.among))
     ]
 
-    -- an item that governs as well is the same one
+    -- another item that governs is the same one
     same_item : (i : Item) → IsInQuestion heard uid (Some from) i → i ≡ item
     same_item i other = one_in_question heard uid (Some from) i item other governs
 

@@ -79,7 +79,7 @@ module _ (items : List Item) (uid : List ℕ) (of_uid : AreOf uid items) (ascend
   pub ends_beside : EndsLater items uid from item → IsLive item × StandsBesideOf series item
   ends_beside is = (is.live, standing_beside items uid of_uid ascend series of item there is.standing)
 
--- ---- one to-do more
+-- ---- one more to-do
 
 pub ending_more : (f : Item → Parts) (first : List Parts) (later : List (Bor Item)) (i : ℕ) (one : Bor Item) → i < length later →
     one ≡ get_or later i one → (all : List Parts) → all ≡ first ++ map f (map (λ item. item.now) (take i later)) →

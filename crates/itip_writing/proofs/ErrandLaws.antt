@@ -1,4 +1,4 @@
--- The laws of answers, of wishes for the newest revision, and of what is asked for.
+-- The laws of answers, of refresh requests, and of errands.
 use Rattle.std.proofs.Common.{◌≡◌, ◌≤◌, ℕ, List, [], ◌∷◌, ◌++◌, subst, map, Option, Some, None}
 use Rattle.std.specs.Option.{option_copied}
 use Rattle.std.specs.String.{string_bytes}
@@ -72,7 +72,7 @@ pub newest_wanted : (heard : List Item) (uid : List ℕ) (id : Option Moment) (a
 newest_wanted heard uid id address at octets items sent none reads =
     refresh_wanted heard uid id address at sent.parts sent.wants none items (refresh_items heard uid id address at octets sent items reads)
 
--- ---- what is kept tells
+-- ---- it depends only on what is kept
 
 module _ (kept heard : List Item) (are : AreKept kept heard) where
   nothing_of_kept : (uid : List ℕ) (e : WritingError) → IfNothing (IsResendOf kept uid None) e → IfNothing (IsResendOf heard uid None) e

@@ -1,4 +1,4 @@
--- Causes of one step, told as those of the whole, and what a search finds.
+-- Causes of one step as causes of the whole, and what a search finds.
 use Rattle.std.proofs.Common.{◌≡◌, ◌∙◌, ℕ, ◌+◌, ◌<◌, List, length, take, get_or, sym, subst, inl, inr, Option, Result, Ok, Err}
 use Rattle.std.specs.Prelude.{IfErr}
 use Rattle.std.specs.List.{Contains}
@@ -97,7 +97,7 @@ refresh_unread heard uid id address at unread is error.NoTimeLeft h = absurd h
 refresh_unread heard uid id address at unread is (error.Unreadable refusal) h = is refusal h
 refresh_unread heard uid id address at unread is error.NoMemory h = h
 
--- that nothing is of a kind, of one element more
+-- if none so far is of a kind and neither is the next element, none up to it is
 pub none_more : {X : Type 0} (P : X → Type 0) (xs : List X) (i : ℕ) (x : X) → i < length xs → x ≡ get_or xs i x →
     ((y : X) → Contains (take i xs) y → P y → ⊥) → (P x → ⊥) → (y : X) → Contains (take (i + 1) xs) y → P y → ⊥
 none_more P xs i x less is before not y h of =
@@ -106,7 +106,7 @@ none_more P xs i x less is before not y h of =
       | inr same ↦ not (subst P (sym same ∙ sym is) of)
     ]
 
--- no time is left, in other words
+-- `IfLate` of what follows from a statement
 pub late_weaker : (A B : Type 0) → (A → B) → (e : WritingError) → IfLate A e → IfLate B e
 late_weaker A B to error.NothingStands h = absurd h
 late_weaker A B to error.NoSuchAttendee h = absurd h
@@ -117,7 +117,7 @@ late_weaker A B to error.NoTimeLeft h = to h
 late_weaker A B to (error.Unreadable refusal) h = absurd h
 late_weaker A B to error.NoMemory h = h
 
--- nothing stands, in other words
+-- `IfNothing` of what follows from a statement
 pub nothing_weaker : (A B : Type 0) → (A → B) → (e : WritingError) → IfNothing A e → IfNothing B e
 nothing_weaker A B to error.NothingStands h = to h
 nothing_weaker A B to error.NoSuchAttendee h = absurd h
@@ -128,7 +128,7 @@ nothing_weaker A B to error.NoTimeLeft h = absurd h
 nothing_weaker A B to (error.Unreadable refusal) h = absurd h
 nothing_weaker A B to error.NoMemory h = h
 
--- an error, in other words
+-- what holds of an error, by what follows from it
 pub if_err_then : {A E : Type 0} (P Q : E → Type 0) (r : Result A E) → ((e : E) → P e → Q e) → IfErr r P → IfErr r Q
 if_err_then P Q (Ok a) f h = tt
 if_err_then P Q (Err e) f h = f e h

@@ -122,7 +122,7 @@ outer = codes "VCALENDAR" ∷ []
 abbrev inside : List (List ℕ)
 inside = codes "VTODO" ∷ codes "VCALENDAR" ∷ []
 
--- the place of a line with this content, and of those behind it
+-- the places of a line with this content and of those after it
 abbrev step : List ℕ → List (List ℕ) → NumberedLine → List NumberedLine → Content → Result (List Placed) MessageRefusal
 step name open_names n ns c =
     cond (same_text c.name (codes "BEGIN"))
@@ -157,7 +157,7 @@ at_property name open_names n ns c e h =
     let p = neither (same_text c.name (codes "BEGIN")) (same_text c.name (codes "END")) h in
     ap (step name open_names n ns) e ∙ rw (p.0, p.1) refl
 
--- the lines of one to-do, from behind its BEGIN
+-- the lines of one to-do, after its BEGIN
 record InTodo (cs ds : List Content) (ns : List NumberedLine) : Type 0 where
   inner : List NumberedLine
   after : List NumberedLine
@@ -185,7 +185,7 @@ in_todo (c ∷ cs) ds k (n ∷ ns) e =
 
 -- ---- the to-dos
 
--- these lines of a to-do are followed by the next to-do, if anything
+-- what follows the lines of a to-do is the next to-do, if anything
 abbrev AtTodo : List Placed → Type 0
 AtTodo [] = Unit {0}
 AtTodo (TodoBegins number ∷ placed) = Unit {0}
@@ -298,14 +298,14 @@ counted_is false false f g m n e = absurd cc
 
 -- ---- the whole message
 
--- the lines of a message are placed so
+-- the lines of a message are framed, with this method and these contents
 pub record IsFramed (m : Method) (css : List (List Content)) (ns : List NumberedLine) : Type 0 where
   pub placed : List Placed
   pub framed : frame ns ≡ Ok placed
   pub headed : (n : Method) → head placed ≡ Ok n → m ≡ n
   pub have : HaveContents css (todos placed)
 
--- the place of the first line with this content
+-- the places of all lines, if the first has this content
 abbrev first_step : NumberedLine → List NumberedLine → Content → Result (List Placed) MessageRefusal
 first_step n ns c =
     cond (same_text c.name (codes "BEGIN") && same_text (str_to_ascii_uppercase c.value) (codes "VCALENDAR")) (place outer ns)

@@ -6,7 +6,7 @@ use Rattle.itip_items.specs.Given.{IsItemOf, AreItemsOf}
 use Rattle.itip_items.specs.declared.item.Item.{Item}
 use Rattle.itip_state.proofs.Members.{none_in, cons_cases, cons_first, cons_later}
 
--- of two lists, element by element: what is related to one of the other
+-- two lists related element by element: each element of one is related to one of the other
 module _ {X Y : Type 0} (R : X → Y → Type 0) where
   pub record HasLeft (xs : List X) (y : Y) : Type 0 where
     pub one : X

@@ -81,7 +81,7 @@ text_spelt (Zoned zone at) = local_spelt at
 
 -- ---- its parameters
 
--- the parameters of a moment are lawful: its zone can stand in one
+-- the parameters of a moment are lawful: its zone can be a parameter value
 abbrev pub HasParams : Moment → Type 0
 HasParams m = AllByRecursion IsLawfulParam (moment_params m)
 
@@ -194,7 +194,7 @@ one_rdate (n ∷ ms) h m there = elim (cons_cases n ms m there) [
 
 -- ---- what an item speaks of
 
--- a draft names an instance by RECURRENCE-ID or, where it adds it, by DTSTART
+-- a draft names an instance by RECURRENCE-ID or, if it adds the instance, by DTSTART
 abbrev Names : Parts → ItemDraft → Type 0
 Names p draft = (id : Moment) → instance_of draft.key ≡ Some id → (p.rid ≡ Some id) ⊎ (p.start ≡ Some id)
 

@@ -100,7 +100,7 @@ pub one_kept : (heard : List Item) (key : Key) (a b : Item) → IsKept heard a �
 one_kept heard key a b p q about same =
     one_best heard key a b (subst (λ (k : Key). IsBest heard k a) about p.best) (subst (λ (k : Key). IsBest heard k b) same q.best)
 
--- of items of which each is kept, the best of a key is the kept one
+-- among items that are all kept, the best of a key is the kept one
 pub kept_of_best : (items : List Item) (key : Key) (found : Option Item) → IsState items → IsBestOf items key found →
     IsKeptOf items key found
 kept_of_best items key None is none = λ item kept about. none item kept.best.is_heard about

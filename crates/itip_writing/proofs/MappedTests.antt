@@ -1,4 +1,4 @@
--- Tests of what a function made of the elements of a list, and of one element more.
+-- Tests of what a function makes of the elements of a list, and of one more element.
 use Rattle.std.proofs.Common.{◌≡◌, ◌∙◌, ℕ, ◌+◌, ◌<◌, List, [], ◌∷◌, ◌++◌, length, map, take, get_or, refl, sym, ap, append-nil, subst, inl}
 use Rattle.std.proofs.Common.{inr, arith, Bool, true, false, ◌||◌, ◌==◌}
 use Rattle.std.specs.Prelude.{cond}
@@ -12,7 +12,7 @@ pub any_mapped : {X Y : Type 0} (f : X → Y) (p : Y → Bool) (xs : List X) →
 any_mapped f p [] = refl
 any_mapped f p (x ∷ xs) = ap (λ b. p (f x) || b) (any_mapped f p xs)
 
--- ---- the elements that pass a test, one more of which is looked at
+-- ---- the elements that pass a test, with one more element looked at
 
 module _ {X : Type 0} (p : X → Bool) (xs : List X) (i : ℕ) (x : X) (below : i < length xs) (here : x ≡ get_or xs i x) where
   one_more : filter p (take (i + 1) xs) ≡ filter p (take i xs) ++ cond (p x) (x ∷ []) []
@@ -34,7 +34,7 @@ pub some_in_other : {X Y : Type 0} (f : X → Y) (xs : List X) → (length xs ==
 some_in_other f [] e = let t : true ≡ false = e in absurd cc
 some_in_other f (x ∷ xs) e = omega arith
 
--- ---- what holds of each element, of one more
+-- ---- what holds of each element, and of one more
 
 pub each_more : {X Y : Type 0} (f : X → Y) (P : Y → Type 0) (xs : List X) (i : ℕ) (x : X) → i < length xs → x ≡ get_or xs i x →
     ((y : Y) → Contains (map f (take i xs)) y → P y) → P (f x) → (y : Y) → Contains (map f (take (i + 1) xs)) y → P y

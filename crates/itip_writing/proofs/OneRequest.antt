@@ -1,4 +1,4 @@
--- A draft has one request or one cause why there is none, and both are known from what is kept.
+-- A draft has one request or one cause why there is none, and both depend only on what is kept.
 use Rattle.std.proofs.Common.{◌≡◌, ◌≢◌, ◌∙◌, sym, ap, refl, ℕ, List, [], ◌∷◌, map, subst, ◌⊎◌, inl, inr, Some, None}
 use Rattle.std.specs.List.{Contains}
 use Rattle.std.proofs.lemmas.Option.{same_Some}
@@ -91,7 +91,7 @@ module _ (heard : List Item) (draft : List Todo) (at : Stamp) where
   text_sequences : (octets : List ℕ) → IsRequestText heard draft at octets → HaveSequences heard draft
   text_sequences octets text = have_sequences heard at draft text.written text.each
 
-  -- a text is there where nothing but its length is wrong
+  -- where there is a text, the only cause is that it is refused
   text_apart : (octets : List ℕ) (e : WritingError) → IsRequestText heard draft at octets → Why heard draft at e →
       (refusal : MessageRefusal) × (e ≡ error.Unreadable refusal) × RefusesMessage octets refusal
   text_apart octets e text (inl spent) = absurd (not_spent heard draft (text_sequences octets text) spent.1)
@@ -108,7 +108,7 @@ module _ (heard : List Item) (draft : List Todo) (at : Stamp) where
       let refused = text_apart octets e is.text because in
       message_apart octets is.readable.items refused.0 is.readable.reads refused.2
 
-  -- where there is a request, memory alone can be wanting
+  -- if there is a request, only memory can be lacking
   pub only_memory : (octets : List ℕ) (e : WritingError) → IsRequest heard draft at octets → CannotRequest heard draft at e →
       e ≡ error.NoMemory
   only_memory octets error.NoMemory is h = refl
@@ -136,7 +136,7 @@ module _ (heard : List Item) (draft : List Todo) (at : Stamp) where
       f ≢ error.NoMemory → e ≡ f
   one_error e f h k some also = one_why e f (why heard draft at e h some) (why heard draft at f k also)
 
--- ---- what is kept tells
+-- ---- it depends only on what is kept
 
 module _ (kept heard : List Item) (are : AreKept kept heard) (draft : List Todo) (at : Stamp) where
   each_of_kept : (rest written : List Todo) → AreRequested kept at rest written → AreRequested heard at rest written

@@ -1,4 +1,4 @@
--- A desk that hears a wish for the newest revision reports it.
+-- A desk that hears a refresh request reports it.
 use Rattle.std.proofs.Common.{◌≡◌, ◌∙◌, ℕ, ◌<◌, List, [], ◌∷◌, ◌++◌, append-nil, map, refl, sym, ap, subst, inl, inr, Bool, true, false}
 use Rattle.std.proofs.Common.{Option, Some, None}
 use Rattle.std.specs.List.{AllByRecursion, Contains}

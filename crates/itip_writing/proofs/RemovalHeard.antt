@@ -68,7 +68,7 @@ later_stamped i j same less =
 
 -- ---- what an answer hides
 
--- where each line of an attendee is hidden, no line shows the attendee
+-- if each line of an attendee is hidden, no line shows the attendee
 pub hidden : (heard : List Item) (asked_of : Property → List Asked) (a : List ℕ) →
     ((line : Property) → attendee_key line.value ≡ a → (answer : Option Item) → Decides heard (asked_of line) answer →
     shown_line line answer ≡ None) → (lines : List Property) (shown : List ShownAttendee) → AreShown heard asked_of lines shown →
@@ -185,7 +185,7 @@ module _ (heard items : List Item) (uid : List ℕ) (n : ℕ) (next : IsNext hea
         subst (λ (b : List ℕ). Removes (heard ++ items) (record { key = key.Answer uid id b; since = since })) (sym same)
         (removes_from (key.Answer uid id a) among refl c h about since low)
 
-    -- rows that ask for them alone, or first of all
+    -- rows that ask only for these, or for these first
     hidden_first : (asked_of : Property → Asked) (rest : Property → List Asked) →
         ((line : Property) → attendee_key line.value ≡ a → Removes (heard ++ items) (asked_of line)) → (lines : List Property)
         (shown : List ShownAttendee) → AreShown (heard ++ items) (λ line. asked_of line ∷ rest line) lines shown →

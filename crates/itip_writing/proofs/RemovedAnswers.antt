@@ -1,4 +1,4 @@
--- The kept answers of those who are removed, one after the other: the latest of one sequence, and that none has a greater one.
+-- The kept answers of those who are removed, one after the other: the latest with a sequence, and that none has a greater one.
 use Rattle.std.proofs.Common.{◌≡◌, ◌∙◌, ℕ, ◌+◌, ◌<◌, ◌==◌, List, [], ◌∷◌, ◌++◌, length, take, get_or, refl, sym, ap, subst, ◌⊎◌, inl}
 use Rattle.std.proofs.Common.{inr, arith, Bool, true, false, Option, Some, None}
 use Rattle.std.specs.Prelude.{if◌then◌else◌}
@@ -19,7 +19,7 @@ use Rattle.itip_writing.specs.Removing.{IsGreater, IsNoGreater, IsOvertaken, rem
 use Rattle.itip_writing.specs.Stamping.{IsEqualRevision, IsKeptOf, IsLatestOf, equal_stamp}
 use Rattle.itip_writing.proofs.Latest.{latest_with, one_kept}
 
--- stamps of which the same holds have the same latest
+-- stamps for which the same holds have the same latest
 latest_there : (P Q : Stamp → Type 0) → ((s : Stamp) → P s → Q s) → ((s : Stamp) → Q s → P s) → (latest : Option Stamp) →
     IsLatestOf P latest → IsLatestOf Q latest
 latest_there P Q to back None none = λ s is. none s (back s is)
@@ -122,7 +122,7 @@ latest_none heard n = λ s is. none_in is.item.key is.about
 pub first_none : (heard : List Item) (n : ℕ) → ¬ IsOvertaken heard [] n
 first_none heard n over = none_in over.item.key over.about
 
--- the keys of one line more
+-- the keys, with one more line
 pub keys_more : (uid : List ℕ) (id : Option Moment) (lines : List Property) (i : ℕ) (line : Property) → i < length lines →
     line ≡ get_or lines i line →
     removed_keys uid id (take (i + 1) lines) ≡ removed_keys uid id (take i lines) ++ answer_key uid id line ∷ []

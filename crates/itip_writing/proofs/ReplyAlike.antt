@@ -1,4 +1,4 @@
--- Answers, and wishes for the newest revision, are the same of two sets of items that keep the same of the UID.
+-- Answers and refresh requests are the same for two sets of items that keep the same of the UID.
 use Rattle.std.proofs.Common.{◌≡◌, ◌∙◌, ℕ, List, [], ◌∷◌, refl, ap, inl, inr, Option, Some, None}
 use Rattle.itip_moment.specs.declared.moment.Moment.{Moment}
 use Rattle.itip_moment.specs.declared.stamp.Stamp.{Stamp}
@@ -111,7 +111,7 @@ module _ (uid : List ℕ) (x y : List Item) (same : KeepSame uid x y) where
   cannot_reply_there id answer at (error.Unreadable refusal) h = reply_unread_there id answer at refusal h
   cannot_reply_there id answer at error.NoMemory h = h
 
-  -- ---- wishes
+  -- ---- refresh requests
 
   before_there : (key : Key) → uid_of key ≡ uid → (item : Item) (stamp : Stamp) → IsBefore x key item stamp → IsBefore y key item stamp
   before_there key of item stamp (inl is) = inl (equal_there uid x y same (key ∷ []) (one_of_uid uid key of) 0 stamp is)

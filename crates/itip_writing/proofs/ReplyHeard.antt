@@ -126,7 +126,7 @@ module _ (heard : List Item) (answer : Answer) where
   second_says before asked rest not says line (Some other) (inl counts) = absurd (not other counts)
   second_says before asked rest not says line (Some other) (inr (none, later)) = first_says asked rest says line (Some other) later
 
-  -- where each line of an attendee says it, whoever has the key of the attendee is shown so
+  -- if each line of an attendee says it, whoever has the key of the attendee is shown so
   module _ (asked_of : Property → List Asked) (a : List ℕ)
       (says : (line : Property) → attendee_key line.value ≡ a → (found : Option Item) → Decides heard (asked_of line) found →
       shown_line line found ≡ Some (told line)) where

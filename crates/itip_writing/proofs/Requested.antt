@@ -1,4 +1,4 @@
--- The to-dos of a request as they are written, and why they can't be.
+-- The to-dos of a request as they are written, and why they can't be written.
 use Rattle.std.proofs.Common.{◌≡◌, ◌∙◌, sym, ap, refl, ℕ, zero, suc, ◌≤◌, List, [], ◌∷◌, map, subst, arith, Option, Some, None}
 use Rattle.std.specs.Prelude.{cond, codes}
 use Rattle.std.specs.BTreeMap.{BTreeMap, get, is_at}
@@ -69,7 +69,7 @@ requested_lawful p at n h few =
       );
     }
 
--- ---- the sequences that are known
+-- ---- the sequences noted so far
 
 pub none_known : (heard : List Item) (known : BTreeMap (List ℕ) ℕ) → known.entries ≡ [] → AreNext heard known
 none_known heard known none uid n e =
@@ -117,7 +117,7 @@ module _ (heard : List Item) (draft : List Todo) (at : Stamp) where
   unread_cause (error.Unreadable refusal) octets text h = record { octets = octets; text = text; refused = h }
   unread_cause error.NoMemory octets text h = tt
 
--- the text of these to-dos, which are given to be written as `given`
+-- the text of these to-dos, which the writer has as `given`
 pub request_text : (heard : List Item) (draft : List Todo) (at : Stamp) (written given : List Todo) (octets : List ℕ) →
     AreRequested heard at draft written → AreApart draft → given ≡ written → octets ≡ sent_octets method.Request (map parts_of given) →
     IsRequestText heard draft at octets

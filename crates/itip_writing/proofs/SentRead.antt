@@ -1,4 +1,4 @@
--- A message that is written and read is read as the items that it was made of.
+-- A message that is written and read back gives the items that it was made of.
 use Rattle.std.proofs.Common.{◌≡◌, ◌∙◌, sym, ap, refl, ℕ, ◌<◌, ◌≤◌, List, [], ◌∷◌, ◌++◌, length, map, subst, arith, Some}
 use Rattle.std.specs.Prelude.{IsTrue, codes}
 use Rattle.std.specs.List.{AllByRecursion, Contains, IsDistinct, flat_map, list_all}
@@ -40,7 +40,7 @@ use Rattle.itip_writing.proofs.Framing.{HaveContents, IsFramed, contents, inner_
 use Rattle.itip_writing.proofs.Spelt.{AreSpelt, IsSpelt, all_spelt, read_contents, spelt_both, spelt_of}
 use Rattle.itip_writing.proofs.Unnumbered.{unnumbered}
 
--- what makes parts lawful but the length of the lines that they are written as
+-- what makes parts lawful, apart from the length of the lines that they are written as
 pub record IsAlmost (p : Parts) : Type 0 where
   pub uid : 0 < length p.uid
   pub seq : p.seq ≤ sequence_limit

@@ -1,4 +1,4 @@
--- Contents that are content lines of whatever length: what is read of their octets is these contents, and then none is too long.
+-- Contents that are content lines of any length: if their octets are read, these contents are read, and none is too long.
 use Rattle.std.proofs.Common.{◌≡◌, ◌∙◌, sym, ap, refl, ℕ, ◌+◌, ◌<◌, ◌≤◌, true, false, cond, List, [], ◌∷◌, ◌++◌, length, map, arith}
 use Rattle.std.proofs.Common.{subst, length-append}
 use Rattle.std.specs.Prelude.{IsTrue}
@@ -25,7 +25,7 @@ use Rattle.itip_todo.specs.Lawful.{IsLawfulContent}
 use Rattle.itip_todo.specs.Written.{Content, content_of, contents_octets}
 use Rattle.itip_todo.proofs.ContentLines.{lines_from, contents_of, reads_from}
 
--- what makes a content lawful but its length
+-- what makes a content lawful, apart from its length
 pub record IsSpelt (content : Content) : Type 0 where
   pub named : IsName content.name
   pub each_param : AllByRecursion IsLawfulParam content.params
@@ -49,7 +49,7 @@ spelt_both (c ∷ cs) ds h k = (h.0, spelt_both cs ds h.1 k)
 abbrev text_of : Content → List ℕ
 text_of c = line_text c.name c.params c.value
 
--- ---- its octets are in no line break
+-- ---- none of its octets is in a line break
 
 abbrev IsClean : List ℕ → Type 0
 IsClean text = list_all is_value_octet text ≡ true

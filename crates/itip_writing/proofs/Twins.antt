@@ -1,4 +1,4 @@
--- To-dos of one key, and to-dos of which no two are.
+-- To-dos with the same key, and to-dos no two of which have the same.
 use Rattle.std.proofs.Common.{◌≡◌, ◌∙◌, sym, ap, refl, ℕ, ◌+◌, ◌==◌, Bool, true, false, List, [], ◌∷◌, ◌++◌, take, drop, subst}
 use Rattle.std.proofs.Common.{arith, zero, suc, get_or, Option, Some, None, take-append-drop}
 use Rattle.std.specs.Prelude.{IsTrue, ◌&&◌, ◌||◌}
@@ -194,7 +194,7 @@ none_there (todo ∷ others) e =
     let parts = or_none (list_any (is_twin todo) others) (has_twins others) e in
     apart_more todo others (no_other todo others parts.0) (none_there others parts.1)
 
--- to-dos of which two are of one key are not apart
+-- to-dos two of which have the same key are not apart
 pub twins_apart : (all : List Todo) → HasTwins all → AreApart all → ⊥
 twins_apart all twins apart =
     past twins.front (subst AreApart twins.whole apart)

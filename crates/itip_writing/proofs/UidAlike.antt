@@ -1,4 +1,4 @@
--- What is said of a UID depends on what is kept of it alone: of a part and of the whole, and of what is kept and of what was heard.
+-- What is said of a UID depends only on what is kept of it: it is the same for a part and the whole, for what is kept and what was heard.
 use Rattle.std.proofs.Common.{◌≡◌, ◌↔◌, ◌<◌, ◌≤◌, ℕ, zero, suc, List, [], ◌∷◌, max, refl, sym, ◌∙◌, ap, subst, inl, inr, true, false, arith}
 use Rattle.std.proofs.Common.{Option, Some, None}
 use Rattle.std.specs.List.{AllByRecursion, Contains}
@@ -249,7 +249,7 @@ next_there uid x y same None is = last_there uid x y same (Some last_sequence) i
 next_there uid x y same (Some zero) is = last_there uid x y same None is
 next_there uid x y same (Some (suc n)) (is, few) = (last_there uid x y same (Some n) is, few)
 
--- the next sequence, told of a part that has all items of the UID
+-- the next sequence, by a part that has all items of the UID
 pub next_in_part : (uid other : List ℕ) (part whole : List Item) → ArePart uid part whole → other ≡ uid → (next : Option ℕ) →
     IsNext whole uid next → IsNext part other next
 next_in_part uid other part whole are same next is =
@@ -270,7 +270,7 @@ equal_there uid x y same keys of n stamp is = record {
   stamp_is = is.stamp_is;
 }
 
--- of stamps of which the same holds
+-- stamps for which the same holds
 module _ (P Q : Stamp → Type 0) (to : (s : Stamp) → P s → Q s) (back : (s : Stamp) → Q s → P s) (at : Stamp) where
   pub stamped_there : (stamp : Stamp) → IsStampAfter P at stamp → IsStampAfter Q at stamp
   stamped_there stamp (inl in_time) =

@@ -1,4 +1,4 @@
--- The lines of a to-do without SEQUENCE are read as a to-do of which the sequence is 0.
+-- The lines of a to-do without SEQUENCE are read as a to-do whose sequence is 0.
 use Rattle.std.proofs.Common.{◌≡◌, ◌∙◌, sym, ap, refl, Bool, true, false, cond, ◌&&◌, List, [], ◌∷◌, ◌++◌, length, map, subst, Some}
 use Rattle.std.specs.Prelude.{nat_le}
 use Rattle.std.specs.Fmt.{decimal}
@@ -25,7 +25,7 @@ use Rattle.itip_todo.proofs.Segments.{base_on}
 use Rattle.itip_todo.proofs.WritingLaws.{read_again}
 use Rattle.itip_writing.proofs.Framing.{first_two}
 
--- ---- lines that are the same but for those of SEQUENCE
+-- ---- lines that are the same apart from those of SEQUENCE
 
 abbrev SameBut : List Line → List Line → Type 0
 SameBut less whole = (r : PropertyName) → is_same r name.Sequence ≡ false → lines_of less r ≡ lines_of whole r
@@ -61,9 +61,9 @@ good_less less whole (l ∷ lines) same none h =
       good_less (less ++ l ∷ []) (whole ++ l ∷ []) lines (same_more less whole l same) two.1 h.1,
     )
 
--- ---- a line of SEQUENCE behind the first two
+-- ---- a SEQUENCE line after the first two lines
 
--- no other property is SEQUENCE, either way round
+-- the test for the same property is symmetric if one of the two is SEQUENCE
 other_way : (r : PropertyName) → is_same r name.Sequence ≡ false → is_same name.Sequence r ≡ false
 other_way r h = elim (is_same name.Sequence r) as (λ b. is_same name.Sequence r ≡ b → b ≡ false) [
   | true ↦ λ e.
@@ -74,7 +74,7 @@ other_way r h = elim (is_same name.Sequence r) as (λ b. is_same name.Sequence r
 ] refl
 
 module _ (a b s : Line) (rest : List Line) (is : property_of s ≡ name.Sequence) where
-  -- the lines of a property where these are behind the first two
+  -- the lines of a property if these follow the first two
   abbrev behind_two : PropertyName → List Line → List Line
   behind_two r ls =
       cond (is_same (property_of a) r) (a ∷ cond (is_same (property_of b) r) (b ∷ ls) ls) (cond (is_same (property_of b) r) (b ∷ ls) ls)
@@ -91,7 +91,7 @@ module _ (a b s : Line) (rest : List Line) (is : property_of s ≡ name.Sequence
   with_sequence = ap (λ (p : PropertyName). behind_two name.Sequence
       (cond (is_same p name.Sequence) (s ∷ lines_of rest name.Sequence) (lines_of rest name.Sequence))) is
 
--- of lines with one of SEQUENCE, none is left without it
+-- if one of the lines is of SEQUENCE and is the only one, none is left without it
 only_one : (x y : Bool) (a b s : Line) (ls : List Line) (c : Content) →
     map content_of (cond x (a ∷ cond y (b ∷ (s ∷ ls)) (s ∷ ls)) (cond y (b ∷ (s ∷ ls)) (s ∷ ls))) ≡ c ∷ [] →
     (cond x (a ∷ cond y (b ∷ ls) ls) (cond y (b ∷ ls) ls) ≡ []) × (ls ≡ [])
@@ -106,7 +106,7 @@ only_one false false a b s (l ∷ ls) c e = absurd cc
 abbrev pub unnumbered_lines : Parts → List Content
 unnumbered_lines p = plain name.Uid p.uid ∷ (plain name.DtStamp (stamp_text p.stamp) ∷ base_on p)
 
--- its line of SEQUENCE
+-- its SEQUENCE line
 abbrev sequence_line : Todo → Line
 sequence_line todo = record {
   name = name_text name.Sequence;

@@ -1,5 +1,5 @@
--- The messages that cancel a to-do, an instance of it, or an instance and all after it (RFC 5546 3.4.5). Which SEQUENCE and DTSTAMP
--- they have, and what is cancelled beside an instance, are our own rules.
+-- The messages that cancel a to-do, an instance of it, or an instance and all after it (RFC 5546 3.4.5). Their SEQUENCE and DTSTAMP,
+-- and what else is cancelled along with an instance and all after it, are our own rules.
 use Rattle.std.specs.Prelude.{◌≡◌, ◌⊎◌, ℕ, Bool, true, false, cond, List, [], ◌∷◌, map, Option, Some, None}
 use Rattle.std.specs.List.{Contains, AllPairs, list_any}
 use Rattle.std.specs.Option.{is_none, option_cmp}
@@ -53,7 +53,7 @@ notice uid item id range state attendees sequence stamp = record {
   others = [];
 }
 
--- it cancels the to-do as a whole, an instance, or an instance and all after it, and goes to all attendees of the item
+-- a notice that cancels the to-do as a whole, an instance, or an instance and all after it, and goes to all attendees of the item
 abbrev pub cancelled : List ℕ → Item → Option Moment → Bool → ℕ → Stamp → Parts
 cancelled uid item id range sequence stamp = notice uid item id range (Some status.Cancelled) item.todo.attendees sequence stamp
 
@@ -62,12 +62,12 @@ abbrev pub cancelled_key : List ℕ → Option Moment → Bool → Key
 cancelled_key uid None range = key.Series uid
 cancelled_key uid (Some id) range = instance_key range uid id
 
--- the octets of a CANCEL with these to-dos, which are read again
+-- the bytes of a CANCEL with these to-dos, which can be read back
 pub record IsSent (all : List Parts) (octets : List ℕ) : Type 0 where
   pub octets_are : octets ≡ sent_octets method.Cancel all
   pub readable : IsReadable octets
 
--- the octets of a CANCEL with these to-dos are refused
+-- the bytes of a CANCEL with these to-dos are refused
 abbrev pub IsUnread : List Parts → MessageRefusal → Type 0
 IsUnread all refusal = RefusesMessage (sent_octets method.Cancel all) refusal
 
@@ -76,13 +76,13 @@ pub record HasRow (heard : List Item) (uid : List ℕ) (id : Option Moment) : Ty
   pub item : Item
   pub governs : IsInQuestion heard uid id item
 
--- the row in question is there, and no sequence is left
+-- there is a row in question, and no sequence is left
 pub record IsCancelSpent (heard : List Item) (uid : List ℕ) (id : Option Moment) : Type 0 where
   pub there : HasRow heard uid id
   pub last : IsNext heard uid None
 
--- What cancels a to-do as a whole, or an instance, where it is written at a moment: the item that governs the row in question says
--- from whom it comes and to whom it goes.
+-- The to-do that cancels a to-do as a whole, or an instance, written at a moment: the item that governs the row in question says from
+-- whom it comes and to whom it goes.
 pub record IsCancelOf (heard : List Item) (uid : List ℕ) (id : Option Moment) (at : Stamp) (parts : Parts) : Type 0 where
   pub item : Item
   pub governs : IsInQuestion heard uid id item
@@ -92,13 +92,13 @@ pub record IsCancelOf (heard : List Item) (uid : List ℕ) (id : Option Moment) 
   pub stamped : IsStampAfter (IsEqualRevision heard (cancelled_key uid id false ∷ []) sequence) at stamp
   pub parts_are : parts ≡ cancelled uid item id false sequence stamp
 
--- the octets of the message that cancels a to-do as a whole, or an instance
+-- the bytes of the message that cancels a to-do as a whole, or an instance
 pub record IsCancelling (heard : List Item) (uid : List ℕ) (id : Option Moment) (at : Stamp) (octets : List ℕ) : Type 0 where
   pub parts : Parts
   pub cancels : IsCancelOf heard uid id at parts
   pub sent : IsSent (parts ∷ []) octets
 
--- the message that cancels it is refused
+-- the message that cancels it is refused when read
 pub record IsCancelUnread (heard : List Item) (uid : List ℕ) (id : Option Moment) (at : Stamp) (refusal : MessageRefusal) : Type 0 where
   pub parts : Parts
   pub cancels : IsCancelOf heard uid id at parts
@@ -111,24 +111,24 @@ CannotCancel heard uid id at =
 
 -- ---- an instance and all after it
 
--- the moments of the form and zone of a moment that are after it
+-- a moment is after another, and of its form and zone
 pub record IsAfter (from at : Moment) : Type 0 where
   pub one_form : HaveOneForm from at
   pub later : moment_cmp at from ≡ Greater
 
--- an instance item stands and is live, at a moment or after it
+-- a live instance item stands at a moment or after it
 pub record EndsInstance (heard : List Item) (uid : List ℕ) (from id : Moment) (item : Item) : Type 0 where
   pub live : IsLiveInstance heard uid id item
   pub reached : Reaches from id
 
--- a range item stands after a moment, and is live
+-- a live range item stands after a moment
 pub record EndsRange (heard : List Item) (uid : List ℕ) (from id : Moment) (item : Item) : Type 0 where
   pub stands : StandsFrom heard uid id item
   pub live : IsLive item
   pub after : IsAfter from id
 
--- What is cancelled, with the item that says from whom and to whom: all from the moment on, by the item that governs the row in
--- question; each live instance that stands at the moment or after it, and each live range that stands after it, by its own item.
+-- What is cancelled, and the item that says from whom and to whom: all from the moment on, with the item that governs the row in
+-- question; each live instance that stands at the moment or after it, and each live range that stands after it, with its own item.
 abbrev pub Ends : List Item → List ℕ → Moment → Moment → Bool → Item → Type 0
 Ends heard uid from id false item = EndsInstance heard uid from id item
 Ends heard uid from id true item = ((id ≡ from) × IsInQuestion heard uid (Some from) item) ⊎ EndsRange heard uid from id item
@@ -141,7 +141,7 @@ pub record IsEnding (heard : List Item) (uid : List ℕ) (from : Moment) (sequen
   pub ends : Ends heard uid from id range item
   pub parts_are : parts ≡ cancelled uid item (Some id) range sequence stamp
 
--- by moment, an instance before the range of its moment
+-- ordered by moment, an instance before the range of its moment
 abbrev pub ending_cmp : Parts → Parts → Ordering
 ending_cmp a b = ordering_then (option_cmp moment_cmp a.rid b.rid) (nat_cmp (one_if a.range) (one_if b.range))
 
@@ -155,7 +155,7 @@ pub record AreEndings (heard : List Item) (uid : List ℕ) (from : Moment) (sequ
 abbrev pub ended_keys : List ℕ → List Parts → List Key
 ended_keys uid all = map (λ (parts : Parts). cancelled_key uid parts.rid parts.range) all
 
--- what cancels an instance and all after it, where it is written at a moment
+-- the to-dos that cancel an instance and all after it, written at a moment
 pub record IsOnwardOf (heard : List Item) (uid : List ℕ) (from : Moment) (at : Stamp) (all : List Parts) : Type 0 where
   pub there : HasRow heard uid (Some from)
   pub sequence : ℕ
@@ -164,13 +164,13 @@ pub record IsOnwardOf (heard : List Item) (uid : List ℕ) (from : Moment) (at :
   pub stamped : IsStampAfter (IsEqualRevision heard (ended_keys uid all) sequence) at stamp
   pub are : AreEndings heard uid from sequence stamp all
 
--- the octets of the message that cancels an instance and all after it
+-- the bytes of the message that cancels an instance and all after it
 pub record IsCancellingOnward (heard : List Item) (uid : List ℕ) (from : Moment) (at : Stamp) (octets : List ℕ) : Type 0 where
   pub all : List Parts
   pub cancels : IsOnwardOf heard uid from at all
   pub sent : IsSent all octets
 
--- the message that cancels them is refused
+-- the message that cancels them is refused when read
 pub record IsOnwardUnread (heard : List Item) (uid : List ℕ) (from : Moment) (at : Stamp) (refusal : MessageRefusal) : Type 0 where
   pub all : List Parts
   pub cancels : IsOnwardOf heard uid from at all
@@ -181,11 +181,11 @@ abbrev pub CannotCancelOnward : List Item → List ℕ → Moment → Stamp → 
 CannotCancelOnward heard uid from at =
     IfCause (NoneInQuestion heard uid (Some from)) ⊥ (IsCancelSpent heard uid (Some from)) ⊥ ⊥ ⊥ (IsOnwardUnread heard uid from at)
 
--- ORGANIZER, where one of these to-dos has none
+-- ORGANIZER if one of these to-dos has none
 abbrev pub lacking_among : List Parts → List PropertyName
 lacking_among all = cond (list_any (λ (parts : Parts). is_none parts.organizer) all) (name.Organizer ∷ []) []
 
--- what RFC 5546 3.4.5 wants in such a message, and one of its to-dos lacks
+-- what RFC 5546 3.4.5 requires in such a message and one of its to-dos lacks
 pub record IsOnwardLacking (heard : List Item) (uid : List ℕ) (from : Moment) (lacking : List PropertyName) : Type 0 where
   pub there : HasRow heard uid (Some from)
   pub sequence : ℕ

@@ -1,11 +1,11 @@
--- What is said of an error, cause by cause, in the order of causes (our own form): nothing where memory was refused.
+-- What an error says, cause by cause, in the order of causes (our own form): nothing if an allocation failed.
 use Rattle.std.specs.Prelude.{ℕ}
 use Rattle.itip_message.specs.RefusalNumbers as message
 use Rattle.itip_message.specs.declared.error.MessageRefusal.{MessageRefusal}
 use Rattle.itip_writing.specs.declared.error.WritingError.{WritingError}
 use Rattle.itip_writing.specs.declared.error.WritingError.TheVariants as error
 
--- of each cause what is given for it; ⊥ where the cause is not possible
+-- for each cause, what is given for it; ⊥ if the cause is impossible
 abbrev pub IfCause : Type 0 → Type 0 → Type 0 → Type 0 → Type 0 → Type 0 → (MessageRefusal → Type 0) → WritingError → Type 0
 IfCause nothing nobody spent overtaken twins late unread error.NothingStands = nothing
 IfCause nothing nobody spent overtaken twins late unread error.NoSuchAttendee = nobody
@@ -16,7 +16,7 @@ IfCause nothing nobody spent overtaken twins late unread error.NoTimeLeft = late
 IfCause nothing nobody spent overtaken twins late unread (error.Unreadable refusal) = unread refusal
 IfCause nothing nobody spent overtaken twins late unread error.NoMemory = Unit {0}
 
--- an error of one cause, and of nothing else
+-- an error of one cause and of no other
 
 abbrev pub IfNothing : Type 0 → WritingError → Type 0
 IfNothing nothing = IfCause nothing ⊥ ⊥ ⊥ ⊥ ⊥ (λ _. ⊥)
@@ -36,7 +36,7 @@ IfTwins twins = IfCause ⊥ ⊥ ⊥ ⊥ twins ⊥ (λ _. ⊥)
 abbrev pub IfLate : Type 0 → WritingError → Type 0
 IfLate late = IfCause ⊥ ⊥ ⊥ ⊥ ⊥ late (λ _. ⊥)
 
--- a message that couldn't be read again
+-- a message that can't be read back
 abbrev pub IfUnread : (MessageRefusal → Type 0) → WritingError → Type 0
 IfUnread unread = IfCause ⊥ ⊥ ⊥ ⊥ ⊥ ⊥ unread
 

@@ -1,4 +1,4 @@
--- What is asked for, and what is written for it or why nothing is (our own rules; the messages are those of RFC 5546 3.4).
+-- What an errand asks for, and what is written for it or why nothing is (our own rules; the messages are those of RFC 5546 3.4).
 use Rattle.std.specs.Prelude.{◌≡◌, ℕ, List, map, None}
 use Rattle.std.specs.Option.{option_copied}
 use Rattle.std.specs.String.{string_bytes}
@@ -17,7 +17,7 @@ use Rattle.itip_writing.specs.declared.errand.Errand.{Errand}
 use Rattle.itip_writing.specs.declared.errand.Errand.TheVariants as errand
 use Rattle.itip_writing.specs.declared.error.WritingError.{WritingError}
 
--- the octets are what is asked for, where it is written at a moment
+-- the bytes are the message that an errand asks for, written at a moment
 abbrev pub IsWritten : Errand → List Item → Stamp → List ℕ → Type 0
 IsWritten (errand.Resend uid) heard at octets = IsResend heard uid.now octets
 IsWritten (errand.Reply uid id answer) heard at octets = IsReply heard uid.now (option_copied id) answer at octets
@@ -28,7 +28,7 @@ IsWritten (errand.Remove uid id attendees) heard at octets =
     IsRemoving heard uid.now (option_copied id) (map string_bytes attendees.now) at octets
 IsWritten (errand.Request draft) heard at octets = IsRequest heard draft.now at octets
 
--- why nothing is written: the first cause that applies; nothing is said where memory was refused
+-- why nothing is written: the first cause that applies; nothing is said if an allocation failed
 abbrev pub CannotBeWritten : Errand → List Item → Stamp → WritingError → Type 0
 CannotBeWritten (errand.Resend uid) heard at error = IfNothing (IsResendOf heard uid.now None) error
 CannotBeWritten (errand.Reply uid id answer) heard at error = CannotReply heard uid.now (option_copied id) answer at error
@@ -40,7 +40,7 @@ CannotBeWritten (errand.Remove uid id attendees) heard at error =
     CannotRemove heard uid.now (option_copied id) (map string_bytes attendees.now) at error
 CannotBeWritten (errand.Request draft) heard at error = CannotRequest heard draft.now at error
 
--- what RFC 5546 3.4 wants in the message that is asked for, and that is not there
+-- what RFC 5546 3.4 requires in the message that is asked for, and that is missing
 abbrev pub LacksOf : Errand → List Item → List PropertyName → Type 0
 LacksOf (errand.Resend uid) heard lacking = IsResendLacking heard uid.now lacking
 LacksOf (errand.Reply uid id answer) heard lacking = IsLacking heard uid.now (option_copied id) lacking

@@ -1,5 +1,5 @@
--- The message that removes attendees (RFC 5546 3.4.5): a CANCEL without STATUS that names them. Which SEQUENCE and DTSTAMP it has is
--- our own rule.
+-- The message that removes attendees (RFC 5546 3.4.5): a CANCEL without STATUS that names them. Its SEQUENCE and DTSTAMP are our own
+-- rules.
 use Rattle.std.specs.Prelude.{◌≡◌, ◌≤◌, ◌<◌, ℕ, Bool, false, List, [], ◌∷◌, map, length, Option, Some, None}
 use Rattle.std.specs.List.{Contains, filter, list_any}
 use Rattle.itip_moment.specs.declared.moment.Moment.{Moment}
@@ -21,11 +21,11 @@ use Rattle.itip_writing.specs.Causes.{IfCause}
 use Rattle.itip_writing.specs.Stamping.{IsEqualRevision, IsStampAfter, IsTimeSpent, later_stamp}
 use Rattle.itip_writing.specs.declared.error.WritingError.{WritingError}
 
--- the attendee of an ATTENDEE line has one of these addresses
+-- an ATTENDEE line has one of these addresses
 abbrev pub is_one_of : List (List ℕ) → Property → Bool
 is_one_of addresses line = list_any (λ address. same_text (attendee_key line.value) (attendee_key address)) addresses
 
--- the ATTENDEE lines of these addresses, in their order
+-- the ATTENDEE lines that have one of these addresses, in their order
 abbrev pub lines_of : List (List ℕ) → List Property → List Property
 lines_of addresses lines = filter (is_one_of addresses) lines
 
@@ -33,28 +33,28 @@ lines_of addresses lines = filter (is_one_of addresses) lines
 abbrev pub removed_keys : List ℕ → Option Moment → List Property → List Key
 removed_keys uid id lines = map (answer_key uid id) lines
 
--- one of these is the attendee of an address
+-- one of these attendees has the address
 pub record ShowsOne (shown : List ShownAttendee) (address : List ℕ) : Type 0 where
   pub attendee : ShownAttendee
   pub there : Contains shown attendee
   pub same : attendee_key attendee.address ≡ attendee_key address
 
--- each address that is named is one of an attendee who is shown
+-- each of these addresses is that of a shown attendee
 abbrev pub ShowsAll : List ShownAttendee → List (List ℕ) → Type 0
 ShowsAll shown addresses = (address : List ℕ) → Contains addresses address → ShowsOne shown address
 
--- an address is named, and each that is named is one of an attendee who is shown
+-- there is at least one address, and each is that of a shown attendee
 pub record ShowsEach (shown : List ShownAttendee) (addresses : List (List ℕ)) : Type 0 where
   pub some : 0 < length addresses
   pub each : ShowsAll shown addresses
 
--- the item governs the row in question, which shows each of these
+-- the item governs the row in question, which shows the attendees with each of these addresses
 pub record IsRemovable (heard : List Item) (uid : List ℕ) (id : Option Moment) (addresses : List (List ℕ)) (item : Item) : Type 0 where
   pub shown : List ShownAttendee
   pub shows : ShowsInQuestion heard uid id item shown
   pub each : ShowsEach shown addresses
 
--- the row in question doesn't show each of these
+-- the row in question doesn't show all of them, or there are none
 pub record IsNobody (heard : List Item) (uid : List ℕ) (id : Option Moment) (addresses : List (List ℕ)) : Type 0 where
   pub item : Item
   pub shown : List ShownAttendee
@@ -68,14 +68,14 @@ pub record IsOvertaken (heard : List Item) (keys : List Key) (sequence : ℕ) : 
   pub about : Contains keys item.key
   pub greater : sequence < item.eff
 
--- the row in question shows each of these; the next sequence, and the keys of their answers
+-- the row in question shows all of them; the next sequence, and the keys of their answers
 pub record IsRemoval (heard : List Item) (uid : List ℕ) (id : Option Moment) (addresses : List (List ℕ)) (item : Item) (sequence : ℕ)
     (keys : List Key) : Type 0 where
   pub removable : IsRemovable heard uid id addresses item
   pub next : IsNext heard uid (Some sequence)
   pub keys_are : keys ≡ removed_keys uid id (lines_of addresses item.todo.attendees)
 
--- what removes attendees from a to-do as a whole, or from an instance, where it is written at a moment
+-- the to-do that removes attendees from a to-do as a whole, or from an instance, written at a moment
 pub record IsRemovalOf (heard : List Item) (uid : List ℕ) (id : Option Moment) (addresses : List (List ℕ)) (at : Stamp) (parts : Parts)
     : Type 0 where
   pub item : Item
@@ -87,20 +87,20 @@ pub record IsRemovalOf (heard : List Item) (uid : List ℕ) (id : Option Moment)
   pub stamped : IsStampAfter (IsEqualRevision heard keys sequence) at stamp
   pub parts_are : parts ≡ notice uid item id false None (lines_of addresses item.todo.attendees) sequence stamp
 
--- the octets of the message that removes them
+-- the bytes of the message that removes them
 pub record IsRemoving (heard : List Item) (uid : List ℕ) (id : Option Moment) (addresses : List (List ℕ)) (at : Stamp) (octets : List ℕ)
     : Type 0 where
   pub parts : Parts
   pub removes : IsRemovalOf heard uid id addresses at parts
   pub sent : IsSent (parts ∷ []) octets
 
--- each is shown, and no sequence is left
+-- all of them are shown, and no sequence is left
 pub record IsRemovalSpent (heard : List Item) (uid : List ℕ) (id : Option Moment) (addresses : List (List ℕ)) : Type 0 where
   pub item : Item
   pub removable : IsRemovable heard uid id addresses item
   pub spent : IsNext heard uid None
 
--- an answer of one of them would overtake what removes them
+-- an answer of one of them would overtake the removal
 pub record IsRemovalOvertaken (heard : List Item) (uid : List ℕ) (id : Option Moment) (addresses : List (List ℕ)) : Type 0 where
   pub item : Item
   pub sequence : ℕ
@@ -108,7 +108,7 @@ pub record IsRemovalOvertaken (heard : List Item) (uid : List ℕ) (id : Option 
   pub removes : IsRemoval heard uid id addresses item sequence keys
   pub overtaken : IsOvertaken heard keys sequence
 
--- an answer of one of them with the same sequence has the last DTSTAMP that there is
+-- an answer of one of them with the same sequence has the last possible DTSTAMP
 pub record IsRemovalLate (heard : List Item) (uid : List ℕ) (id : Option Moment) (addresses : List (List ℕ)) (at : Stamp) : Type 0 where
   pub item : Item
   pub sequence : ℕ
@@ -117,7 +117,7 @@ pub record IsRemovalLate (heard : List Item) (uid : List ℕ) (id : Option Momen
   pub first : ¬ IsOvertaken heard keys sequence
   pub late : IsTimeSpent (IsEqualRevision heard keys sequence) at
 
--- the message that removes them is refused
+-- the message that removes them is refused when read
 pub record IsRemovalUnread (heard : List Item) (uid : List ℕ) (id : Option Moment) (addresses : List (List ℕ)) (at : Stamp)
     (refusal : MessageRefusal) : Type 0 where
   pub parts : Parts
@@ -132,12 +132,12 @@ CannotRemove heard uid id addresses at =
 
 -- ---- one answer after the other (our own form)
 
--- an answer, where there is one, has no greater sequence
+-- the answer, if there is one, has no greater sequence
 abbrev pub IsNoGreater : ℕ → Option Item → Type 0
 IsNoGreater sequence None = Unit {0}
 IsNoGreater sequence (Some answer) = answer.eff ≤ sequence
 
--- it has a greater one
+-- there is an answer, and it has a greater sequence
 abbrev pub IsGreater : ℕ → Option Item → Type 0
 IsGreater sequence None = ⊥
 IsGreater sequence (Some answer) = sequence < answer.eff

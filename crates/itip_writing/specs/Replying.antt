@@ -1,4 +1,4 @@
--- The answer that an attendee sends (RFC 5546 3.4.3). To what it answers, and which SEQUENCE and DTSTAMP it has, are our own rules.
+-- The answer that an attendee sends (RFC 5546 3.4.3). What it answers, and its SEQUENCE and DTSTAMP, are our own rules.
 use Rattle.std.specs.Prelude.{◌≡◌, ◌⊎◌, ℕ, false, max, List, [], ◌∷◌, codes, Option, Some, None}
 use Rattle.std.specs.List.{Contains}
 use Rattle.itip_moment.specs.declared.moment.Moment.{Moment}
@@ -30,11 +30,11 @@ use Rattle.itip_writing.specs.declared.error.WritingError.{WritingError}
 
 -- ---- the attendee in question
 
--- the attendee that a row shows is that of the address
+-- a shown attendee has the address
 abbrev pub IsOfAddress : List ℕ → ShownAttendee → Type 0
 IsOfAddress address attendee = attendee_key attendee.address ≡ attendee_key address
 
--- The row in question shows the attendee of an address; the item that governs the row has them under this address.
+-- The row in question shows the attendee with an address; `named` is the address as the row shows it.
 pub record IsAsked (heard : List Item) (uid : List ℕ) (id : Option Moment) (address : List ℕ) (item : Item) (named : List ℕ) : Type 0
   where
     pub shown : List ShownAttendee
@@ -44,7 +44,7 @@ pub record IsAsked (heard : List Item) (uid : List ℕ) (id : Option Moment) (ad
     pub same : IsOfAddress address attendee
     pub named_is : named ≡ attendee.address
 
--- the row in question shows no attendee of an address
+-- the row in question shows no attendee with an address
 pub record ShowsNone (heard : List Item) (uid : List ℕ) (id : Option Moment) (address : List ℕ) : Type 0 where
   pub item : Item
   pub shown : List ShownAttendee
@@ -55,7 +55,7 @@ pub record ShowsNone (heard : List Item) (uid : List ℕ) (id : Option Moment) (
 abbrev pub IsNotAsked : List Item → List ℕ → Option Moment → List ℕ → WritingError → Type 0
 IsNotAsked heard uid id address = IfCause (NoneInQuestion heard uid id) (ShowsNone heard uid id address) ⊥ ⊥ ⊥ ⊥ (λ _. ⊥)
 
--- what a message about the row in question lacks: ORGANIZER, where the item that governs the row has none
+-- what a message about the row in question lacks: ORGANIZER if the item that governs the row has none
 pub record IsLacking (heard : List Item) (uid : List ℕ) (id : Option Moment) (lacking : List PropertyName) : Type 0 where
   pub item : Item
   pub governs : IsInQuestion heard uid id item
@@ -63,11 +63,11 @@ pub record IsLacking (heard : List Item) (uid : List ℕ) (id : Option Moment) (
 
 -- ---- the answer
 
--- the key of what the attendee of an address answers
+-- the key of the answer of the attendee with an address
 abbrev pub answer_key : List ℕ → Option Moment → List ℕ → Key
 answer_key uid id address = key.Answer uid id (attendee_key address)
 
--- the greater of a sequence and that of an answer, where there is one
+-- the greater of a sequence and that of an answer, if there is one
 abbrev pub no_less : ℕ → Option Item → ℕ
 no_less own None = own
 no_less own (Some answer) = max own answer.own
@@ -119,7 +119,7 @@ reply_parts uid id stamp sequence percent organizer attendee = record {
   others = [];
 }
 
--- the to-do is what an attendee answers about the row in question, where it is written at a moment
+-- the to-do is an attendee's answer about the row in question, written at a moment
 pub record IsReplyOf (heard : List Item) (uid : List ℕ) (id : Option Moment) (answer : Answer) (at : Stamp) (parts : Parts) : Type 0
   where
     pub item : Item
@@ -130,7 +130,7 @@ pub record IsReplyOf (heard : List Item) (uid : List ℕ) (id : Option Moment) (
     pub revision : IsAnswerRevision heard (answer_key uid id named) item.own at sequence stamp
     pub parts_are : parts ≡ reply_parts uid id stamp sequence answer.percent item.todo.organizer (answer_line named answer.status)
 
--- the octets of the answer, which are read as a message
+-- the bytes of the answer, which are read as a message
 pub record IsReply (heard : List Item) (uid : List ℕ) (id : Option Moment) (answer : Answer) (at : Stamp) (octets : List ℕ) : Type 0
   where
     pub parts : Parts
@@ -138,14 +138,14 @@ pub record IsReply (heard : List Item) (uid : List ℕ) (id : Option Moment) (an
     pub octets_are : octets ≡ sent_octets method.Reply (parts ∷ [])
     pub readable : IsReadable octets
 
--- an answer of the attendee with the same sequence has the last DTSTAMP that there is
+-- an answer of the attendee with the same sequence has the last possible DTSTAMP
 pub record IsReplyLate (heard : List Item) (uid : List ℕ) (id : Option Moment) (answer : Answer) (at : Stamp) : Type 0 where
   pub item : Item
   pub named : List ℕ
   pub asked : IsAsked heard uid id answer.attendee.now item named
   pub late : IsAnswerLate heard (answer_key uid id named) item.own at
 
--- the answer couldn't be read again
+-- the answer is refused when read
 pub record IsReplyUnread (heard : List Item) (uid : List ℕ) (id : Option Moment) (answer : Answer) (at : Stamp) (refusal : MessageRefusal)
     : Type 0 where
   pub parts : Parts
@@ -158,9 +158,9 @@ CannotReply heard uid id answer at =
     IfCause (NoneInQuestion heard uid id) (ShowsNone heard uid id answer.attendee.now) ⊥ ⊥ ⊥ (IsReplyLate heard uid id answer at)
     (IsReplyUnread heard uid id answer at)
 
--- ---- what is promised of it
+-- ---- what is promised of an answer
 
--- the attendee of the answer is shown, as it says
+-- the attendee of the answer is shown with its PARTSTAT and percentage
 pub record ShowsAnswer (answer : Answer) (shown : List ShownAttendee) : Type 0 where
   pub attendee : ShownAttendee
   pub there : Contains shown attendee
@@ -168,19 +168,19 @@ pub record ShowsAnswer (answer : Answer) (shown : List ShownAttendee) : Type 0 w
   pub partstat : (other : ShownAttendee) → Contains shown other → IsOfAddress answer.attendee.now other → other.partstat ≡ answer.status
   pub percent : (other : ShownAttendee) → Contains shown other → IsOfAddress answer.attendee.now other → other.percent ≡ answer.percent
 
--- the row in question shows it
+-- the row in question shows the answer
 pub record IsAnswered (heard : List Item) (uid : List ℕ) (id : Option Moment) (answer : Answer) : Type 0 where
   pub item : Item
   pub shown : List ShownAttendee
   pub shows : ShowsInQuestion heard uid id item shown
   pub answered : ShowsAnswer answer shown
 
--- the row of an occurrence that the series item governs, on which no answer of the attendee of an address to the occurrence counts
+-- the row of an occurrence that the series item governs, on which no answer of the attendee with an address to the occurrence counts
 pub record IsUnansweredOccurrence (heard : List Item) (window : Window) (address : List ℕ) (row : Row) : Type 0 where
   pub of : IsOccurrenceRow heard window row
   pub none : NoneCounts heard (record { key = answer_key row.uid (Some of.at) address; since = of.item.own })
 
--- a row that the series item governs, on which the answer of the attendee of an address to the to-do as a whole is asked
+-- a row that the series item governs, on which the answer to the to-do as a whole of the attendee with an address is asked
 abbrev pub AsksWhole : List Item → Window → List ℕ → Row → Type 0
 AsksWhole heard window address row =
     IsUnansweredOccurrence heard window address row ⊎ (IsSingleRow heard window row ⊎ IsOpaqueRow heard window row)

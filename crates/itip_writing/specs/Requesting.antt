@@ -27,7 +27,7 @@ use Rattle.itip_writing.specs.Sent.{IsReadable, sent_octets}
 use Rattle.itip_writing.specs.declared.error.WritingError.{WritingError}
 use mathlib.Core.Bool.{beq}
 
--- X-DESK-BASE where it is above the SEQUENCE
+-- X-DESK-BASE if it is greater than the SEQUENCE
 abbrev pub base_above : ℕ → Option ℕ → Option ℕ
 base_above sequence None = None
 base_above sequence (Some base) = canonical_base sequence base
@@ -40,21 +40,21 @@ requested at sequence parts = record parts { stamp = at; seq = sequence; base = 
 abbrev pub key_of : Todo → Key
 key_of todo = (task_draft kind.Request todo.seq todo.rid (parts_of todo)).key
 
--- a to-do of a draft is written so
+-- a to-do of a draft is written as `written`, with the next SEQUENCE of its UID
 pub record IsRequested (heard : List Item) (at : Stamp) (todo written : Todo) : Type 0 where
   pub sequence : ℕ
   pub next : IsNext heard todo.uid (Some sequence)
   pub parts_are : parts_of written ≡ requested at sequence (parts_of todo)
 
--- the to-dos of a draft are written so, in its order
+-- each to-do of a draft is written so, in the order of the draft
 abbrev pub AreRequested : List Item → Stamp → List Todo → List Todo → Type 0
 AreRequested heard at draft written = AllZip (IsRequested heard at) draft written
 
--- no two to-dos are of one key
+-- no two to-dos have the same key
 abbrev pub AreApart : List Todo → Type 0
 AreApart all = AllPairs (λ (a b : Todo). key_of a ≢ key_of b) all
 
--- two of these to-dos are of one key
+-- two of these to-dos have the same key
 pub record HasTwins (all : List Todo) : Type 0 where
   pub front : List Todo
   pub first : Todo
@@ -64,7 +64,7 @@ pub record HasTwins (all : List Todo) : Type 0 where
   pub whole : all ≡ front ++ first ∷ (middle ++ second ∷ back)
   pub same : key_of first ≡ key_of second
 
--- The test of it: two to-dos are of one key where UID, RECURRENCE-ID and RANGE are the same.
+-- The test for this: two to-dos have the same key if their UID, RECURRENCE-ID and RANGE are the same.
 abbrev pub is_twin : Todo → Todo → Bool
 is_twin todo other =
     (same_text todo.uid other.uid && option_eq (eq_by_cmp moment_cmp) todo.rid other.rid) && beq todo.range other.range
@@ -73,14 +73,14 @@ abbrev pub has_twins : List Todo → Bool
 has_twins [] = false
 has_twins (todo ∷ others) = list_any (is_twin todo) others || has_twins others
 
--- the octets of a request, which may be too long to be read
+-- the bytes of a request, which may be too long to be read
 pub record IsRequestText (heard : List Item) (draft : List Todo) (at : Stamp) (octets : List ℕ) : Type 0 where
   pub written : List Todo
   pub each : AreRequested heard at draft written
   pub apart : AreApart draft
   pub octets_are : octets ≡ sent_octets method.Request (map parts_of written)
 
--- the octets of the request of a draft, written at a moment beside what was heard: they are read again
+-- the bytes of the request of a draft, written at a moment given what was heard; they can be read back
 pub record IsRequest (heard : List Item) (draft : List Todo) (at : Stamp) (octets : List ℕ) : Type 0 where
   pub text : IsRequestText heard draft at octets
   pub readable : IsReadable octets

@@ -1,4 +1,4 @@
--- The octets of a message as it is sent (RFC 5546 3.4; its lines are those of the canonical form, our own).
+-- The bytes of a message as it is sent (RFC 5546 3.4; its lines are those of the canonical form, our own).
 use Rattle.std.specs.Prelude.{ℕ, Bool, true, false, cond, List, [], ◌∷◌, ◌++◌, codes, None}
 use Rattle.std.specs.Fmt.{decimal}
 use Rattle.std.specs.List.{flat_map}
@@ -14,7 +14,7 @@ use Rattle.itip_items.specs.declared.kind.Method.{Method}
 use Rattle.itip_items.specs.declared.kind.Method.TheVariants as method
 use Rattle.itip_writing.specs.declared.brief.BriefTodo.{BriefTodo}
 
--- The lines of a to-do without SEQUENCE, which is the fourth: BEGIN, UID and DTSTAMP stand before it.
+-- The lines of a to-do without SEQUENCE, which is the fourth, after BEGIN, UID and DTSTAMP.
 abbrev pub without_sequence : List Content → List Content
 without_sequence [] = []
 without_sequence (a ∷ []) = a ∷ []
@@ -47,12 +47,12 @@ sent_contents m all = sent_front m ++ (flat_map (sent_todo m) all ++ calendar_en
 abbrev pub sent_octets : Method → List Parts → List ℕ
 sent_octets m all = contents_octets (sent_contents m all)
 
--- the octets are read as a message
+-- the bytes are read as a message
 pub record IsReadable (octets : List ℕ) : Type 0 where
   pub items : List Item
   pub reads : ReadsMessage octets items
 
--- ---- a to-do of which few properties are written
+-- ---- a to-do of which only a few properties are written
 
 -- SEQUENCE is written under each method but REFRESH
 abbrev pub has_sequence : Method → Bool
@@ -65,11 +65,11 @@ has_sequence method.Refresh = false
 abbrev pub sequence_lines : Method → ℕ → List Content
 sequence_lines m sequence = cond (has_sequence m) (plain name.Sequence (decimal sequence) ∷ []) []
 
--- UID, DTSTAMP and, where it is written, SEQUENCE
+-- UID, DTSTAMP and, if it is written, SEQUENCE
 abbrev pub sent_head : Method → Parts → List Content
 sent_head m parts = plain name.Uid parts.uid ∷ plain name.DtStamp (stamp_text parts.stamp) ∷ sequence_lines m parts.seq
 
--- its parts: what it doesn't have is absent
+-- its parts: properties that it doesn't have are absent
 abbrev pub brief_parts : BriefTodo → Parts
 brief_parts brief = record {
   uid = brief.uid.now;

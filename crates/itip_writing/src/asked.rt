@@ -18,21 +18,21 @@ use itip_todo::attendee_key;
 use itip_view::{InQuestion, RowInQuestion, ShownAttendee};
 use std::alloc::Global;
 
-/// An attendee whom the row in question shows.
+/// An attendee that the row in question shows.
 #[derive(Drop)]
 pub(crate) struct AskedAttendee<'a> {
     /// The item that governs the row.
     pub item: &'a Item,
-    /// The address as the item has it.
+    /// The address as the item spells it.
     pub address: Text,
     /// The key of the attendee.
     pub key: Text,
     pub ghost of_address: { key ≡ attendee_key address },
 }
 
-/// The attendee of an address, where the row in question shows them.
+/// The attendee with an address, if the row in question shows one.
 ///
-/// `NothingStands` where there is no row in question, and `NoSuchAttendee` where it shows no attendee of this address.
+/// Fails with `NothingStands` if there is no row in question, and with `NoSuchAttendee` if it shows no attendee with this address.
 pub(crate) fn asked_attendee<'a>(
     alloc: Global,
     items: &ItemsOfUid<'a>,
@@ -52,7 +52,7 @@ pub(crate) fn asked_attendee<'a>(
 
 /// The row in question.
 ///
-/// `NothingStands` where there is none.
+/// Fails with `NothingStands` if there is none.
 pub(crate) fn row_in_question<'a>(
     alloc: Global,
     items: &ItemsOfUid<'a>,
@@ -69,7 +69,7 @@ pub(crate) fn row_in_question<'a>(
     }
 }
 
-/// The attendee of an address among those that are shown.
+/// The shown attendee with an address, or `None` if there is none.
 pub(crate) fn attendee_shown<'s>(
     shown: &'s [ShownAttendee],
     address: &str,
@@ -86,14 +86,14 @@ pub(crate) fn attendee_shown<'s>(
     None
 }
 
-/// Whether an attendee is that of an address.
+/// Whether an attendee has this address.
 fn is_of_address(attendee: &ShownAttendee, address: &str) -> bool
     ensures { IsTrue result ↔ IsOfAddress address.now attendee.now }
 {
     attendee.address.as_str().eq_ignore_ascii_case(address)
 }
 
-/// An attendee whom the row that an item governs shows.
+/// Puts together the item that governs a row and an attendee that the row shows.
 fn asked_of<'a>(
     alloc: Global,
     item: &'a Item,

@@ -1,4 +1,4 @@
-//! A to-do of which few properties are written.
+//! A to-do of which only a few properties are written.
 ghost use Rattle.std.specs.Prelude.{◌≡◌, ◌++◌, ◌∷◌, [], map, OnOk};
 ghost use Rattle.std.specs.Fmt.{decimal};
 ghost use Rattle.itip_moment.specs.Written.{stamp_text};
@@ -14,18 +14,17 @@ use itip_moment::{Moment, Stamp, write_stamp};
 use itip_todo::{Property, PropertyName, Status, Uid, write_property};
 use std::alloc::AllocError;
 
-/// A to-do of an answer, a wish for the newest revision, a cancellation or a removal, with the few properties that are written
-/// of it.
+/// The to-do of an answer, a refresh request, a cancellation or a removal, with the few properties that are written of it.
 ///
-/// Unlike a [`Todo`](itip_todo::Todo) it may have lines that are too long to be read again: of an address or a zone that are
-/// nearly as long as a line may be.
+/// Unlike a [`Todo`](itip_todo::Todo) it may have lines that are too long to be read back, if an address or a zone is nearly as
+/// long as a line may be.
 #[derive(Clone, Copy, Drop)]
 pub(crate) struct BriefTodo<'a> {
     /// UID.
     pub uid: &'a Uid,
     /// DTSTAMP.
     pub stamp: Stamp,
-    /// SEQUENCE, which a REFRESH is written without.
+    /// SEQUENCE; a REFRESH is written without it.
     pub seq: u32,
     /// RECURRENCE-ID.
     pub rid: Option<&'a Moment>,
@@ -59,7 +58,7 @@ pub(crate) fn write_brief(
     write_value("END", b"VTODO", out)
 }
 
-/// Appends UID, DTSTAMP and, where the method has it, SEQUENCE.
+/// Appends UID, DTSTAMP and, if the method has it, SEQUENCE.
 fn write_head(method: Method, todo: &BriefTodo<'_>, out: &mut Vec<u8>) -> Result<(), AllocError>
     ensures { OnOk result (out.new.items ≡ out.old.items ++ contents_octets (sent_head method (brief_parts todo.now))) }
 {

@@ -1,4 +1,4 @@
-//! Cancelling a to-do, or an instance of it.
+//! Cancelling a to-do or an instance of it.
 ghost use Rattle.std.specs.Prelude.{◌≡◌, ◌∷◌, [], IfOk, IfErr};
 ghost use Rattle.std.specs.Option.{option_copied};
 ghost use Rattle.itip_report.specs.Organizing.{IsNext};
@@ -22,14 +22,13 @@ use itip_todo::{Status, Uid};
 use itip_view::InQuestion;
 use std::alloc::Global;
 
-/// The message that cancels a to-do as a whole, or an instance of it, where it is written at a moment (RFC 5546 3.4.5).
+/// The message that cancels a to-do as a whole or an instance of it, written at the moment `at` (RFC 5546 3.4.5).
 ///
-/// It is a CANCEL with STATUS:CANCELLED, UID, the RECURRENCE-ID that is given, and the ORGANIZER and all ATTENDEE lines of the item
-/// that governs the row in question. SEQUENCE is the next of the UID, which no series, instance or range item that was heard has; so
-/// DTSTAMP is the moment.
+/// It is a CANCEL with STATUS:CANCELLED, UID, the RECURRENCE-ID `id`, and the ORGANIZER and all ATTENDEE lines of the item that governs
+/// the row in question. SEQUENCE is the next of the UID, which no series, instance or range item heard so far has, so DTSTAMP is `at`.
 ///
-/// `NothingStands` where there is no row in question, `NoSequenceLeft` where the greatest SEQUENCE was used, and `Unreadable` where
-/// the message isn't read again, being too long.
+/// Fails with `NothingStands` if there is no row in question, with `NoSequenceLeft` if the greatest SEQUENCE has been used, with
+/// `Unreadable` if the message is too long to be read back, and with `NoMemory` if an allocation fails.
 pub fn cancellation(
     alloc: Global,
     state: &State,
@@ -45,7 +44,7 @@ pub fn cancellation(
     cancellation_of(alloc, &items, id, next_seq(state, uid), at)
 }
 
-/// The same, where these are the kept items of the UID, and this is its next sequence.
+/// The same, given the kept items of the UID and its next sequence.
 fn cancellation_of(
     alloc: Global,
     items: &ItemsOfUid<'_>,
@@ -75,7 +74,7 @@ fn cancellation_of(
 
 /// The item that governs the row in question.
 ///
-/// `NothingStands` where there is no such row.
+/// Fails with `NothingStands` if there is no such row.
 pub(crate) fn governing<'a>(
     alloc: Global,
     items: &ItemsOfUid<'a>,
@@ -91,7 +90,7 @@ pub(crate) fn governing<'a>(
     }
 }
 
-/// A to-do that cancels the to-do as a whole, an instance, or an instance and all after it, and goes to all attendees of an item.
+/// A to-do that cancels a to-do as a whole, an instance, or an instance and all after it, and goes to all attendees of an item.
 pub(crate) fn cancelled<'a>(
     uid: &'a Uid,
     item: &'a Item,
@@ -114,9 +113,9 @@ pub(crate) fn cancelled<'a>(
     }
 }
 
-/// The octets of a CANCEL with this to-do alone.
+/// The bytes of a CANCEL with this to-do alone.
 ///
-/// `Unreadable` where they aren't read again.
+/// Fails with `Unreadable` if they can't be read back.
 pub(crate) fn sent_alone(alloc: Global, brief: BriefTodo<'_>) -> Result<Vec<u8>, WritingError>
     ensures sent { IfOk result (λ octets. IsSent (brief_parts brief.entry ∷ []) octets.items) }
     ensures unread { IfErr result (IfUnread (IsUnread (brief_parts brief.entry ∷ []))) }

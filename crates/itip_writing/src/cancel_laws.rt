@@ -1,4 +1,4 @@
-//! What holds of messages that cancel and that remove attendees, of every finite set of items heard before. The functions do nothing:
+//! What holds of messages that cancel or remove attendees, whatever finite set of items was heard before. The functions do nothing:
 //! their contracts are the laws.
 ghost use Rattle.std.specs.Prelude.{◌≡◌, ◌++◌, ◌∷◌, [], ℕ, List, Option, Some, None};
 ghost use Rattle.std.specs.List.{Contains};
@@ -24,7 +24,7 @@ ghost use Rattle.itip_writing.specs.Removing.{CannotRemove, IsRemoving};
 ghost use Rattle.itip_writing.specs.Replying.{AsksWhole, IsLacking};
 ghost use Rattle.itip_writing.specs.declared.error.WritingError.{WritingError};
 
-/// A message that cancels or removes attendees, and that is read, is read as the items of the to-dos that it was made of.
+/// A message that cancels or removes attendees gives, when it is read, the items of the to-dos that it was made of.
 pub fn cancellations_are_read()
     ensures cancelled { (heard : List Item) (uid : List ℕ) (id : Option Moment) (at : Stamp) (octets : List ℕ)
         (sent : IsCancelling heard uid id at octets) (items : List Item) → ReadsMessage octets items
@@ -38,7 +38,7 @@ pub fn cancellations_are_read()
 {}
 
 /// A desk that has heard what the sender had heard, and then the cancellation, has in no window a row of the to-do; or none at the
-/// instance that is cancelled; or none from the moment on from which all is cancelled, of its form and zone.
+/// instance that is cancelled; or, if all is cancelled from a moment on, none from that moment on, of its form and zone.
 pub fn cancelled_is_gone()
     ensures whole { (heard : List Item) (uid : List ℕ) (at : Stamp) (octets : List ℕ) (items : List Item)
         → IsCancelling heard uid None at octets → ReadsMessage octets items
@@ -52,9 +52,9 @@ pub fn cancelled_is_gone()
         → (id : Moment) → moment_of row.id ≡ Some id → Reaches from id → ⊥ }
 {}
 
-/// A desk that has heard what the sender had heard, and then the removal, doesn't show the attendee in the row in question; and where
-/// they are removed from the to-do as a whole, in no row that the series item governs and on which no answer of theirs to its own
-/// instance counts.
+/// A desk that has heard what the sender had heard, and then the removal, doesn't show the attendee in the row in question. If they are
+/// removed from the to-do as a whole, no row that the series item governs shows them either, unless an answer of theirs to the row's
+/// own instance counts there.
 pub fn removed_are_gone()
     ensures question { (heard : List Item) (uid : List ℕ) (id : Option Moment) (addresses : List (List ℕ)) (at : Stamp)
         (octets : List ℕ) (items : List Item) → IsRemoving heard uid id addresses at octets → ReadsMessage octets items
@@ -67,8 +67,7 @@ pub fn removed_are_gone()
         → AsksWhole (heard ++ items) window address row → Shows address row → ⊥ }
 {}
 
-/// What cancels and what removes attendees, what such a message lacks, and why there is none, follows from what is kept (our own
-/// rules).
+/// The messages that cancel or remove attendees, what they lack, and why there is none, depend only on what is kept (our own rules).
 pub fn cancelling_of_kept()
     ensures cancelled { (uid : List ℕ) (id : Option Moment) (at : Stamp) (octets : List ℕ)
         → FollowsFromKept (λ heard. IsCancelling heard uid id at octets) }

@@ -1,4 +1,4 @@
-//! What is asked for, and the message that is written for it.
+//! What an office asks for, and the message that is written for it.
 ghost use Rattle.std.specs.Prelude.{IfOk, IfErr, None};
 ghost use Rattle.itip_report.specs.Organizing.{IsResend, IsResendOf};
 ghost use Rattle.itip_writing.specs.Causes.{IfNothing};
@@ -20,26 +20,26 @@ use itip_state::{ItemsOfUid, State};
 use itip_todo::{PropertyName, Todo, Uid};
 use std::alloc::Global;
 
-/// What an office asks for: a message about a to-do that it has heard of, or of a draft.
+/// What an office asks for: a message about a to-do that it has heard of, or the request of a draft.
 #[derive(Clone, Copy, Debug, Drop)]
 pub enum Errand<'a> {
-    /// The messages of a to-do once more.
+    /// The messages of a to-do, sent again.
     Resend {
         uid: &'a Uid,
     },
-    /// An answer to a to-do as a whole, or to an instance.
+    /// An answer to a to-do as a whole or to an instance.
     Reply {
         uid: &'a Uid,
         id: Option<&'a Moment>,
         answer: Answer<'a>,
     },
-    /// The wish of an attendee, by the address, for the newest revision of a to-do as a whole, or of an instance.
+    /// A refresh request of the attendee with this address, for a to-do as a whole or an instance.
     Refresh {
         uid: &'a Uid,
         id: Option<&'a Moment>,
         attendee: &'a str,
     },
-    /// The cancellation of a to-do as a whole, or of an instance.
+    /// The cancellation of a to-do as a whole or of an instance.
     Cancel {
         uid: &'a Uid,
         id: Option<&'a Moment>,
@@ -49,7 +49,7 @@ pub enum Errand<'a> {
         uid: &'a Uid,
         id: &'a Moment,
     },
-    /// The removal of attendees, by their addresses, from a to-do as a whole, or from an instance.
+    /// The removal of the attendees with these addresses from a to-do as a whole or from an instance.
     Remove {
         uid: &'a Uid,
         id: Option<&'a Moment>,
@@ -61,20 +61,20 @@ pub enum Errand<'a> {
     },
 }
 
-/// A message to send; of a resend the messages, one after the other.
+/// A message to send; for a resend, the messages one after the other.
 #[derive(Debug, Drop)]
 pub struct Message {
-    /// The octets.
+    /// The bytes to send.
     pub octets: Vec<u8>,
-    /// The properties that RFC 5546 3.4 wants in such a message and that are not there, each once, in canonical order. In a message
-    /// that is sent again ORGANIZER alone is looked for.
+    /// The properties that RFC 5546 3.4 requires in such a message and that are missing, each once, in canonical order. Messages that
+    /// are sent again are checked for ORGANIZER only.
     pub lacking: Vec<PropertyName>,
 }
 
-/// The message that is asked for, where it is written at a moment and the state keeps what was heard so far.
+/// The message that an errand asks for, written at the moment `at`; `state` keeps what has been heard so far.
 ///
 /// The errors are those of each message: see [`reply_to`], [`refresh_of`], [`cancellation`], [`onward_cancellation`], `removal` and
-/// [`request_of`]; of a resend it is `NothingStands` where no series item of the UID is live.
+/// [`request_of`]. A resend fails with `NothingStands` if no series item of the UID is live, and with `NoMemory` if an allocation fails.
 pub fn message_for(
     alloc: Global,
     state: &State,
@@ -96,9 +96,9 @@ pub fn message_for(
     }
 }
 
-/// The messages of a to-do once more. They lack ORGANIZER where one of them has none.
+/// The messages of a to-do, to be sent again. They lack ORGANIZER if one of them has none.
 ///
-/// `NothingStands` where no series item of the UID is live.
+/// Fails with `NothingStands` if no series item of the UID is live.
 fn sent_again(alloc: Global, state: &State, uid: &Uid) -> Result<Message, WritingError>
     ensures written { IfOk result (λ message. IsResend state.now uid.now message.octets.items) }
     ensures lacking { IfOk result (λ message. IsResendLacking state.now uid.now message.lacking.items) }
@@ -111,9 +111,9 @@ fn sent_again(alloc: Global, state: &State, uid: &Uid) -> Result<Message, Writin
     }
 }
 
-/// What the messages of a to-do that are sent again lack.
+/// What the messages of a to-do lack when they are sent again.
 ///
-/// `NothingStands` where no series item of the UID is live.
+/// Fails with `NothingStands` if no series item of the UID is live.
 fn resend_lacking(
     alloc: Global,
     state: &State,
@@ -126,7 +126,7 @@ fn resend_lacking(
     lacking_in(alloc, &items)
 }
 
-/// The same, where these are the kept items of the UID.
+/// The same, given the kept items of the UID.
 fn lacking_in(alloc: Global, items: &ItemsOfUid<'_>) -> Result<Vec<PropertyName>, WritingError>
     ensures lacking { IfOk result (λ lacking. IsResendLacking items.now.items items.now.uid lacking.items) }
     ensures fault { IfErr result (IfNothing (IsResendOf items.now.items items.now.uid None)) }

@@ -6,31 +6,32 @@ use itip_message::MessageRefusal;
 use std::alloc::{AllocError, AllocFailed};
 use thiserror::Error;
 
-/// Why a message can't be written. Of several causes it is the first in this order.
+/// Why a message can't be written. If several causes apply, the first in this order is returned.
 #[derive(Clone, Copy, PartialEq, Eq, Debug, Drop, Error)]
 pub enum WritingError {
-    /// There is no row in question: the to-do isn't known or is cancelled, or nothing stands at the instance.
+    /// There is no row in question: the to-do isn't known or is cancelled, or nothing stands at the instance. For a resend: no series
+    /// item is live.
     #[error("nothing stands there")]
     NothingStands,
-    /// The row in question shows no attendee of this address.
+    /// The row in question shows no attendee with an address that was given, or a removal was given no address.
     #[error("no such attendee")]
     NoSuchAttendee,
-    /// The greatest SEQUENCE, 2147483647, was used.
+    /// The greatest SEQUENCE, 2147483647, has been used.
     #[error("no sequence is left")]
     NoSequenceLeft,
-    /// An answer of an attendee who is to be removed has a greater SEQUENCE, so that the removal would be overtaken.
+    /// An attendee to be removed has sent an answer with a greater SEQUENCE, which would overtake the removal.
     #[error("an answer of theirs has a greater sequence")]
     AnswerOvertakes,
-    /// Two to-dos of a draft are of one key.
+    /// Two to-dos of a draft have the same key.
     #[error("two to-dos of one key")]
     TwoOfOneKey,
     /// DTSTAMP would have to be after 99991231T235959Z.
     #[error("no time is left")]
     NoTimeLeft,
-    /// The message would be too long to be read again.
+    /// The message would be refused with this refusal when it is read back, for example because it is too long.
     #[error("a message as long as this is not read")]
     Unreadable(MessageRefusal),
-    /// Memory was refused.
+    /// An allocation failed.
     #[error("no memory to write a message")]
     NoMemory,
 }
@@ -38,8 +39,7 @@ pub enum WritingError {
 impl WritingError {
     ghost use Rattle.itip_writing.specs.Causes.{number_of};
 
-    /// The number under which it is shown: 80 to 85; that of the refusal where the message would not be read again, and 40 where
-    /// memory was refused.
+    /// The number under which the error is shown: 80 to 85, the number of the refusal for `Unreadable`, and 40 for `NoMemory`.
     pub fn number(self) -> u32
         ensures { result ≡ number_of self }
     {

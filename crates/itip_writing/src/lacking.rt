@@ -1,4 +1,4 @@
-//! Properties that RFC 5546 3.4 wants in a message and that are not there.
+//! The properties that RFC 5546 3.4 requires in a message and that are missing.
 ghost use Rattle.std.specs.Prelude.{◌≡◌, ◌∷◌, map, IfOk};
 ghost use Rattle.std.specs.List.{list_any};
 ghost use Rattle.std.specs.Option.{is_none};
@@ -11,7 +11,7 @@ use itip_items::Item;
 use itip_todo::{Property, PropertyName, Todo};
 use std::alloc::Global;
 
-/// What a REQUEST wants in each to-do beside what is always written (RFC 5546 3.4.2), in canonical order.
+/// What a REQUEST requires in each to-do besides what is always written (RFC 5546 3.4.2), in canonical order.
 const WANTED_IN_REQUEST: [PropertyName; 5] = [
     PropertyName::DtStart,
     PropertyName::Priority,
@@ -20,7 +20,7 @@ const WANTED_IN_REQUEST: [PropertyName; 5] = [
     PropertyName::Attendee,
 ];
 
-/// ORGANIZER, where there is none: a REPLY, a CANCEL and a REFRESH want it (RFC 5546 3.4.3, 3.4.5 and 3.4.6).
+/// ORGANIZER if there is none: REPLY, CANCEL and REFRESH require it (RFC 5546 3.4.3, 3.4.5 and 3.4.6).
 pub(crate) fn lacking_organizer(
     alloc: Global,
     organizer: &Option<Property>,
@@ -34,7 +34,7 @@ pub(crate) fn lacking_organizer(
     Ok(names)
 }
 
-/// ORGANIZER, where the to-do of one of these items has none: each message that is sent again wants it (RFC 5546 3.4.2).
+/// ORGANIZER if the to-do of one of these items has none: each message that is sent again requires it (RFC 5546 3.4.2).
 pub(crate) fn lacking_of_items(
     alloc: Global,
     series: &Item,
@@ -56,7 +56,7 @@ fn some_lacks(items: &[&Item]) -> bool
     items.iter().any(|item| item.todo.organizer.is_none())
 }
 
-/// What a REQUEST wants and some to-do of a draft lacks, each property once, in canonical order.
+/// The properties that a REQUEST requires and some to-do of a draft lacks, each once, in canonical order.
 pub(crate) fn lacking_in_request(
     alloc: Global,
     draft: &[Todo],
@@ -70,14 +70,14 @@ pub(crate) fn lacking_in_request(
         .collect(alloc)
 }
 
-/// Whether some to-do has none of a property that a REQUEST wants.
+/// Whether some to-do lacks a property that a REQUEST requires.
 fn is_lacking(property: PropertyName, draft: &[Todo]) -> bool
     ensures { result ≡ list_any (λ (todo : Todo). lacks property (parts_of todo)) draft.now }
 {
     draft.iter().any(|todo| lacks(property, todo))
 }
 
-/// Whether a to-do has none of a property that a REQUEST wants.
+/// Whether a to-do lacks a property that a REQUEST requires; `false` for any other property.
 fn lacks(property: PropertyName, todo: &Todo) -> bool
     ensures { result ≡ lacks property (parts_of todo.now) }
 {

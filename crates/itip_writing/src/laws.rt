@@ -1,5 +1,5 @@
-//! What holds of the messages that are written, of every finite set of items heard before. The functions do nothing: their contracts
-//! are the laws.
+//! What holds of the messages that are written, whatever finite set of items was heard before. The functions do nothing: their
+//! contracts are the laws.
 ghost use Rattle.std.specs.Prelude.{◌≡◌, ◌≤◌, ◌++◌, ◌∷◌, [], ℕ, List, Option, Some, None, map};
 ghost use Rattle.std.specs.List.{AllByRecursion, Contains};
 ghost use Rattle.itip_moment.specs.declared.moment.Moment.{Moment};
@@ -26,7 +26,7 @@ ghost use Rattle.itip_writing.specs.declared.answer.Answer.{Answer};
 ghost use Rattle.itip_writing.specs.declared.errand.Errand.{Errand};
 ghost use Rattle.itip_writing.specs.declared.error.WritingError.{WritingError};
 
-/// A message that is written and read is read as the items that it was made of. That of a REFRESH has no SEQUENCE, which is read as 0.
+/// A message that is written and read back gives the items that it was made of. A REFRESH has no SEQUENCE, which is read as 0.
 pub fn messages_are_read()
     ensures todos { (m : Method) (all : List Todo) (items : List Item) → AllByRecursion (Suits m) (map parts_of all)
         → (m ≡ method.Refresh → (todo : Todo) → Contains all todo → todo.seq ≡ 0)
@@ -39,8 +39,9 @@ pub fn messages_are_read()
         → ReadsMessage octets items → AreItemsOf (drafts method.Refresh (sent.parts ∷ [])) items }
 {}
 
-/// A desk that has heard what the sender had heard, and then the answer, shows it in the row in question; and where the answer is to
-/// the to-do as a whole, in each row that the series item governs and on which no answer of the attendee to its own instance counts.
+/// A desk that has heard what the sender had heard, and then the answer, shows it in the row in question. If the answer is to the
+/// to-do as a whole, each row that the series item governs shows it too, unless an answer of the attendee to the row's own instance
+/// counts there.
 pub fn answers_are_shown()
     ensures question { (heard : List Item) (uid : List ℕ) (id : Option Moment) (answer : Answer) (at : Stamp) (octets : List ℕ)
         (items : List Item) → IsReply heard uid id answer at octets → ((n : ℕ) → answer.percent ≡ Some n → n ≤ 100)
@@ -51,14 +52,15 @@ pub fn answers_are_shown()
         → AsksWhole (heard ++ items) window answer.attendee.now row → ShowsAnswer answer row.attendees }
 {}
 
-/// After a refresh the report of those who wait has it, where no refresh of this attendee with a SEQUENCE above 0 is kept.
+/// A desk that has heard what the sender had heard, and then the refresh request, reports it as wanted, if no refresh request of this
+/// attendee with a SEQUENCE above 0 was kept.
 pub fn refreshes_are_wanted()
     ensures { (heard : List Item) (uid : List ℕ) (id : Option Moment) (address : List ℕ) (at : Stamp) (octets : List ℕ)
         (items : List Item) → IsRefresh heard uid id address at octets → NoneSequenced heard uid id address
         → ReadsMessage octets items → (item : Item) × (items ≡ item ∷ []) × IsWanted (heard ++ items) item }
 {}
 
-/// What is written, and why nothing is, follows from what is kept (our own rules).
+/// What is written, and why nothing is, depends only on what is kept (our own rules).
 pub fn writing_of_kept()
     ensures written { (errand : Errand) (at : Stamp) (octets : List ℕ) → FollowsFromKept (λ heard. IsWritten errand heard at octets) }
     ensures lacking { (errand : Errand) (lacking : List PropertyName) → FollowsFromKept (λ heard. LacksOf errand heard lacking) }

@@ -1,5 +1,5 @@
-//! Messages that an office sends (RFC 5546 3.4): an answer, a wish for the newest revision, a cancellation, a removal of attendees,
-//! a request. Their SEQUENCE and DTSTAMP are such that what was heard can't overtake them.
+//! The messages that an office sends (RFC 5546 3.4): answers, refresh requests, cancellations, removals of attendees and requests.
+//! Their SEQUENCE and DTSTAMP are chosen so that nothing heard before can overtake them.
 #![tactic(auto)]
 
 mod answer;

@@ -1,4 +1,4 @@
-//! A message as octets, and reading it again.
+//! Writing a message as bytes, and checking that it can be read back.
 ghost use Rattle.std.specs.Prelude.{◌≡◌, ◌≢◌, ◌++◌, ◌∷◌, [], codes, map, IfOk, IfErr, OnOk};
 ghost use Rattle.itip_todo.specs.PartsOf.{parts_of};
 ghost use Rattle.itip_todo.specs.Written.{content_octets, contents_octets};
@@ -16,9 +16,9 @@ use itip_message::{ReadError, read_message};
 use itip_todo::{Todo, write_todo};
 use std::alloc::Global;
 
-/// A message of these to-dos, with all their properties, in their order (RFC 5546 3.4).
+/// A message of these to-dos in their order, with all their properties (RFC 5546 3.4).
 ///
-/// A REFRESH is written by [`write_briefs`], as it has no SEQUENCE.
+/// A REFRESH is written by [`write_briefs`], since it has no SEQUENCE.
 pub(crate) fn write_message(
     alloc: Global,
     method: Method,
@@ -35,7 +35,7 @@ pub(crate) fn write_message(
     Ok(octets)
 }
 
-/// A message of these to-dos, of which few properties are written, in their order (RFC 5546 3.4).
+/// A message of these brief to-dos in their order (RFC 5546 3.4).
 pub(crate) fn write_briefs(
     alloc: Global,
     method: Method,
@@ -51,7 +51,7 @@ pub(crate) fn write_briefs(
     Ok(octets)
 }
 
-/// A message of one to-do, of which few properties are written.
+/// A message of a single brief to-do.
 pub(crate) fn write_alone(
     alloc: Global,
     method: Method,
@@ -94,9 +94,9 @@ fn end(octets: &mut Vec<u8>) -> Result<(), NoMemory>
     octets.extend_from_slice(b"END:VCALENDAR\r\n")
 }
 
-/// The octets of a message, where they are read as one.
+/// Returns the bytes unchanged if they can be read back as a message.
 ///
-/// `Unreadable` where they are refused, with the refusal.
+/// Fails with `Unreadable`, which has the refusal, if they can't.
 pub(crate) fn readable(alloc: Global, octets: Vec<u8>) -> Result<Vec<u8>, WritingError>
     ensures same { IfOk result (λ read. read.items ≡ octets.items) }
     ensures reads { IfOk result (λ _. IsReadable octets.items) }
@@ -104,7 +104,7 @@ pub(crate) fn readable(alloc: Global, octets: Vec<u8>) -> Result<Vec<u8>, Writin
 {
     match read_message(alloc, octets.as_slice()) {
         Ok(items) => {
-            // By a call: what is dropped in place is proved anew, field by field and case by case.
+            // An explicit call: for a drop in place the prover would go through each field and case again.
             drop(items);
             Ok(octets)
         }

@@ -38,16 +38,16 @@ struct Onward<'a> {
     revision: Revision,
 }
 
-/// The message that cancels an instance of a to-do and all after it, where it is written at a moment (RFC 5546 3.4.5, RFC 5545 3.2.13).
+/// The message that cancels an instance of a to-do and all after it, written at the moment `at` (RFC 5546 3.4.5, RFC 5545 3.2.13).
 ///
-/// It is a CANCEL of the instance with RANGE=THISANDFUTURE, with the ORGANIZER and all ATTENDEE lines of the item that governs the row
-/// in question. Beside it there is a to-do for each live instance item that stands at the moment or after it, and for each live range
-/// item that stands after it, of the moment's form and zone, with ORGANIZER and ATTENDEE lines of that item: each of these would go on
-/// to stand under the cancelled range. They are in the order of moments, an instance before the range of its moment. All have
-/// STATUS:CANCELLED, the next SEQUENCE of the UID, and the moment of writing as DTSTAMP.
+/// It is a CANCEL of the instance `id` with RANGE=THISANDFUTURE, with the ORGANIZER and all ATTENDEE lines of the item that governs the
+/// row in question. It also has a to-do for each live instance item that stands at `id` or later, and for each live range item that
+/// stands later, of the form and zone of `id`, each with its own ORGANIZER and ATTENDEE lines: without these, such items would still
+/// stand under the cancelled range. The to-dos are ordered by moment, an instance before the range of its moment. All have
+/// STATUS:CANCELLED, the next SEQUENCE of the UID, and `at` as DTSTAMP.
 ///
-/// `NothingStands` where there is no row in question, `NoSequenceLeft` where the greatest SEQUENCE was used, and `Unreadable` where
-/// the message isn't read again, being too long.
+/// Fails with `NothingStands` if there is no row in question, with `NoSequenceLeft` if the greatest SEQUENCE has been used, with
+/// `Unreadable` if the message is too long to be read back, and with `NoMemory` if an allocation fails.
 pub fn onward_cancellation(
     alloc: Global,
     state: &State,
@@ -63,7 +63,7 @@ pub fn onward_cancellation(
     onward_of(alloc, &items, id, next_seq(state, uid), at)
 }
 
-/// The same, where these are the kept items of the UID, and this is its next sequence.
+/// The same, given the kept items of the UID and its next sequence.
 fn onward_of(
     alloc: Global,
     items: &ItemsOfUid<'_>,
@@ -125,7 +125,7 @@ fn ends_later(items: &ItemsOfUid<'_>, from: &Moment, item: &Item) -> bool
     }
 }
 
-/// The same, where this is the moment of the item.
+/// The same, given the moment of the item.
 fn ends_from(items: &ItemsOfUid<'_>, from: &Moment, id: &Moment, item: &Item) -> bool
     requires among { IsAmong items.now item.now }
     requires named { override_of item.now.key ≡ Some id.now }
@@ -138,7 +138,7 @@ fn ends_from(items: &ItemsOfUid<'_>, from: &Moment, id: &Moment, item: &Item) ->
     }
 }
 
-/// Whether an instance or range item is live, and stands beside the series item of its UID, where there is one.
+/// Whether an instance or range item is live and stands beside the series item of its UID, if there is one.
 fn lives_beside(series: Option<&Item>, item: &Item) -> bool
     ensures { IsTrue result ↔ (IsLive item.now × StandsBesideOf (option_copied series.entry) item.now) }
 {
@@ -149,7 +149,7 @@ fn lives_beside(series: Option<&Item>, item: &Item) -> bool
     }
 }
 
-/// The moment of an instance, or from which on; `None` of other keys.
+/// The moment of an instance key, or the first of a range key; `None` for other keys.
 fn override_of(key: &Key) -> Option<&Moment>
     ensures { option_copied result ≡ override_of key.now }
 {
@@ -170,7 +170,8 @@ fn is_after(from: &Moment, at: &Moment) -> bool
     }
 }
 
-/// The to-dos that cancel what is at a moment, by the item that governs the row in question, and what these items say after it.
+/// The to-dos that cancel the instance at the moment, if need be, and all from it on, by the item that governs the row in question; then
+/// one for each later item.
 fn endings<'a>(
     alloc: Global,
     onward: Onward<'a>,
@@ -187,7 +188,7 @@ fn endings<'a>(
     Ok(all)
 }
 
-/// The to-dos that cancel the instance at the moment, where the item is that of an instance, and all from the moment on.
+/// The to-dos that cancel the instance at the moment, if the item is that of an instance, and all from the moment on.
 fn first_endings<'a>(
     alloc: Global,
     onward: Onward<'a>,
@@ -201,7 +202,7 @@ fn first_endings<'a>(
     Ok(first)
 }
 
-/// The to-do that cancels the instance at the moment, where the item is that of an instance.
+/// The to-do that cancels the instance at the moment, if the item is that of an instance; else none.
 fn instance_ending<'a>(
     alloc: Global,
     onward: Onward<'a>,
@@ -218,7 +219,7 @@ fn instance_ending<'a>(
     }
 }
 
-/// This to-do alone.
+/// A list of this to-do alone.
 fn alone<'a>(alloc: Global, brief: BriefTodo<'a>) -> Result<Vec<BriefTodo<'a>>, NoMemory>
     ensures { IfOk result (λ all. all.items ≡ brief.entry ∷ []) }
 {
@@ -227,7 +228,7 @@ fn alone<'a>(alloc: Global, brief: BriefTodo<'a>) -> Result<Vec<BriefTodo<'a>>, 
     Ok(all)
 }
 
-/// The to-do that cancels what an instance or range item says.
+/// The to-do that cancels the instance or range of an item.
 fn ending<'a>(onward: Onward<'a>, item: &'a Item) -> BriefTodo<'a>
     ensures { brief_parts result
         ≡ ending_of onward.entry.uid.now onward.entry.revision.sequence onward.entry.revision.stamp item.now }
@@ -255,9 +256,9 @@ fn names_range(key: &Key) -> bool
     matches!(key, Key::Range(_, _))
 }
 
-/// The octets of a CANCEL with these to-dos.
+/// The bytes of a CANCEL with these to-dos.
 ///
-/// `Unreadable` where they aren't read again.
+/// Fails with `Unreadable` if they can't be read back.
 fn sent_together(alloc: Global, all: &[BriefTodo<'_>]) -> Result<Vec<u8>, WritingError>
     ensures sent { IfOk result (λ octets. IsSent (map brief_parts all.now) octets.items) }
     ensures unread { IfErr result (IfUnread (IsUnread (map brief_parts all.now))) }
@@ -266,7 +267,7 @@ fn sent_together(alloc: Global, all: &[BriefTodo<'_>]) -> Result<Vec<u8>, Writin
     readable(alloc, text)
 }
 
-/// ORGANIZER, where one of these to-dos has none.
+/// ORGANIZER if one of these to-dos has none.
 fn lacking_among(alloc: Global, all: &[BriefTodo<'_>]) -> Result<Vec<PropertyName>, NoMemory>
     ensures { IfOk result (λ names. names.items ≡ lacking_among (map brief_parts all.now)) }
 {

@@ -1,4 +1,4 @@
-//! The wish of an attendee for the newest revision.
+//! The refresh request of an attendee, who asks for the latest revision.
 ghost use Rattle.std.specs.Prelude.{◌≡◌, ◌∷◌, [], IfOk, IfErr};
 ghost use Rattle.std.specs.Option.{option_copied};
 ghost use Rattle.itip_items.specs.declared.key.Key.TheVariants as keys;
@@ -25,15 +25,15 @@ use itip_state::{ItemsOfUid, State};
 use itip_todo::{Property, Uid};
 use std::alloc::Global;
 
-/// The wish of an attendee for the newest revision of a to-do as a whole, or of an instance of it, where it is written at a moment
-/// (RFC 5546 3.4.6).
+/// The refresh request of an attendee for a to-do as a whole or for an instance of it, written at the moment `at` (RFC 5546 3.4.6).
 ///
-/// It is a REFRESH with UID, DTSTAMP, the ORGANIZER of the item that governs the row in question, the RECURRENCE-ID that is given,
-/// and the ATTENDEE, whose address is as the item has it. DTSTAMP is the moment, or one second after the item and after a refresh of
-/// the attendee without SEQUENCE that is kept, where one of these isn't before the moment.
+/// It is a REFRESH with UID, DTSTAMP, the ORGANIZER of the item that governs the row in question, the RECURRENCE-ID `id`, and ATTENDEE
+/// with the address as the item spells it. DTSTAMP is `at`, or one second after the later of that item and the attendee's kept refresh
+/// request, if that isn't before `at`; a kept one with a SEQUENCE above 0 is passed over.
 ///
-/// `NothingStands` where there is no row in question, `NoSuchAttendee` where it shows no attendee of this address, `NoTimeLeft` where
-/// there is no such second, and `Unreadable` where the message isn't read again, being too long.
+/// Fails with `NothingStands` if there is no row in question, with `NoSuchAttendee` if it shows no attendee with this address, with
+/// `NoTimeLeft` if there is no such second, with `Unreadable` if the message is too long to be read back, and with `NoMemory` if an
+/// allocation fails.
 pub fn refresh_of(
     alloc: Global,
     state: &State,
@@ -50,7 +50,7 @@ pub fn refresh_of(
     refresh_among(alloc, &items, id, attendee, at)
 }
 
-/// The same, where these are the kept items of the UID.
+/// The same, given the kept items of the UID.
 fn refresh_among(
     alloc: Global,
     items: &ItemsOfUid<'_>,
@@ -71,9 +71,9 @@ fn refresh_among(
     Ok(Message { octets, lacking })
 }
 
-/// DTSTAMP of a refresh that is written at a moment.
+/// DTSTAMP of a refresh request that is written at the moment `at`.
 ///
-/// `NoTimeLeft` where the item that governs, or a refresh of the same sequence, has the last DTSTAMP that there is.
+/// Fails with `NoTimeLeft` if the item that governs, or a kept refresh request of sequence 0, has the last possible DTSTAMP.
 fn refresh_stamp(
     items: &ItemsOfUid<'_>,
     id: Option<&Moment>,
@@ -90,7 +90,7 @@ fn refresh_stamp(
     stamp_after(at, Some(latest))
 }
 
-/// The key of what an attendee wants.
+/// The key of an attendee's refresh request.
 fn refresh_key(uid: &Uid, id: Option<&Moment>, attendee: &Text) -> Result<Key, NoMemory>
     ensures { IfOk result (λ key. key ≡ keys.Refresh uid.now (option_copied id.entry) attendee.now) }
 {
@@ -100,7 +100,7 @@ fn refresh_key(uid: &Uid, id: Option<&Moment>, attendee: &Text) -> Result<Key, N
     Ok(Key::Refresh(uid, id, attendee))
 }
 
-/// The octets of a refresh.
+/// The bytes of a refresh request.
 fn refresh_octets(
     alloc: Global,
     uid: &Uid,
@@ -126,7 +126,7 @@ fn refresh_octets(
     write_alone(alloc, Method::Refresh, brief)
 }
 
-/// The ATTENDEE line of a refresh, alone: the address.
+/// A list of one ATTENDEE line, that of a refresh request: the address alone.
 fn refresh_line(alloc: Global, address: &Text) -> Result<Vec<Property>, NoMemory>
     ensures { IfOk result (λ lines. lines.items ≡ refresh_line address.now ∷ []) }
 {

@@ -1,4 +1,4 @@
-//! Removing attendees from a to-do, or from an instance of it.
+//! Removing attendees from a to-do or from an instance of it.
 ghost use Rattle.std.specs.Prelude.{◌≡◌, ◌↔◌, ◌∷◌, [], IsTrue, IfOk, OnOk, IfErr, None, false, map};
 ghost use Rattle.std.specs.List.{list_any};
 ghost use Rattle.std.specs.Option.{option_copied};
@@ -32,18 +32,18 @@ use itip_todo::{Property, Uid, attendee_key};
 use itip_view::ShownAttendee;
 use std::alloc::Global;
 
-/// The message that removes attendees, by their addresses, from a to-do as a whole, or from an instance of it, where it is written at a
-/// moment (RFC 5546 3.4.5).
+/// The message that removes the attendees with these addresses from a to-do as a whole or from an instance of it, written at the
+/// moment `at` (RFC 5546 3.4.5).
 ///
-/// It is a CANCEL without STATUS, with UID, the RECURRENCE-ID that is given, the ORGANIZER of the item that governs the row in
-/// question, and its ATTENDEE lines of these attendees, in its order. SEQUENCE is the next of the UID; DTSTAMP is the moment, or one
-/// second after the latest kept answer of theirs to the same, of those that have the same SEQUENCE, where that isn't before the moment.
-/// So it is later than each answer of theirs to the same.
+/// It is a CANCEL without STATUS, with UID, the RECURRENCE-ID `id`, the ORGANIZER of the item that governs the row in question, and
+/// that item's ATTENDEE lines of these attendees, in its order. SEQUENCE is the next of the UID. DTSTAMP is `at`, or one second after
+/// the latest of their kept answers to the same that have this SEQUENCE, if that isn't before `at`. So the removal is later than each
+/// of their answers to the same.
 ///
-/// `NothingStands` where there is no row in question, `NoSuchAttendee` where no address is given or one is of nobody whom the row
-/// shows, `NoSequenceLeft` where the greatest SEQUENCE was used, `AnswerOvertakes` where an answer of theirs has a greater one,
-/// `NoTimeLeft` where there is no second after an answer of the same, and `Unreadable` where the message isn't read again, being too
-/// long.
+/// Fails with `NothingStands` if there is no row in question, with `NoSuchAttendee` if no address is given or the row shows nobody with
+/// one of them, with `NoSequenceLeft` if the greatest SEQUENCE has been used, with `AnswerOvertakes` if one of their answers has a
+/// greater SEQUENCE than the removal, with `NoTimeLeft` if there is no second after an answer with the same one, with `Unreadable` if
+/// the message is too long to be read back, and with `NoMemory` if an allocation fails.
 pub fn removal(
     alloc: Global,
     state: &State,
@@ -61,7 +61,7 @@ pub fn removal(
     removal_of(alloc, &items, id, attendees, next_seq(state, uid), at)
 }
 
-/// The same, where these are the kept items of the UID, and this is its next sequence.
+/// The same, given the kept items of the UID and its next sequence.
 fn removal_of(
     alloc: Global,
     items: &ItemsOfUid<'_>,
@@ -90,9 +90,9 @@ fn removal_of(
     Ok(Message { octets, lacking })
 }
 
-/// The item that governs the row in question, where the row shows each of these attendees.
+/// The item that governs the row in question, if the row shows each of these attendees.
 ///
-/// `NothingStands` where there is no such row, and `NoSuchAttendee` where it doesn't show each, or none is given.
+/// Fails with `NothingStands` if there is no such row, and with `NoSuchAttendee` if it doesn't show all of them or none is given.
 fn removable<'a>(
     alloc: Global,
     items: &ItemsOfUid<'a>,
@@ -112,7 +112,7 @@ fn removable<'a>(
     }
 }
 
-/// Whether an address is given, and each that is given is of an attendee who is shown.
+/// Whether at least one address is given, and each is that of a shown attendee.
 fn shows_each(shown: &[ShownAttendee], attendees: &[String]) -> bool
     ensures { IsTrue result ↔ ShowsEach shown.now (map string_bytes attendees.now) }
 {
@@ -122,7 +122,7 @@ fn shows_each(shown: &[ShownAttendee], attendees: &[String]) -> bool
     each_shown(shown, attendees)
 }
 
-/// Whether each address that is given is of an attendee who is shown.
+/// Whether each of these addresses is that of a shown attendee.
 fn each_shown(shown: &[ShownAttendee], attendees: &[String]) -> bool
     ensures { IsTrue result ↔ ShowsAll shown.now (map string_bytes attendees.now) }
 {
@@ -134,7 +134,7 @@ fn each_shown(shown: &[ShownAttendee], attendees: &[String]) -> bool
     true
 }
 
-/// Whether an address is of an attendee who is shown.
+/// Whether an address is that of a shown attendee.
 fn is_shown(shown: &[ShownAttendee], address: &str) -> bool
     ensures { IsTrue result ↔ ShowsOne shown.now address.now }
 {
@@ -144,7 +144,7 @@ fn is_shown(shown: &[ShownAttendee], address: &str) -> bool
     }
 }
 
-/// Copies of the ATTENDEE lines of the attendees of these addresses, in their order.
+/// Copies of those ATTENDEE lines that have one of these addresses, in their order.
 fn lines_of(
     alloc: Global,
     lines: &[Property],
@@ -162,7 +162,7 @@ fn lines_of(
     Ok(found)
 }
 
-/// Whether the attendee of a line has one of these addresses.
+/// Whether the attendee on a line has one of these addresses.
 fn is_one_of(line: &Property, attendees: &[String]) -> bool
     ensures { result ≡ list_any (λ address. same_text (attendee_key line.now.value) (attendee_key (string_bytes address))) attendees.now }
 {
@@ -172,9 +172,9 @@ fn is_one_of(line: &Property, attendees: &[String]) -> bool
         .any(|address| value.eq_ignore_ascii_case(address.as_str()))
 }
 
-/// The latest DTSTAMP of the kept answers of the attendees of these lines, of those that have this sequence; `None` where none has.
+/// The latest DTSTAMP among the kept answers with this sequence of the attendees on these lines, or `None` if there are none.
 ///
-/// `AnswerOvertakes` where one of the answers has a greater sequence.
+/// Fails with `AnswerOvertakes` if one of their answers has a greater sequence.
 fn latest_answer(
     alloc: Global,
     items: &ItemsOfUid<'_>,
@@ -198,18 +198,18 @@ fn latest_answer(
     Ok(latest)
 }
 
-/// The kept answer of an attendee, by its key; `None` where none is kept. It takes no memory.
+/// The kept answer of the attendee with this key, or `None` if none is kept. Allocates nothing.
 fn kept_answer<'a>(items: &ItemsOfUid<'a>, id: Option<&Moment>, attendee: &str) -> Option<&'a Item>
     ensures { IsKeptOf items.now.items (keys.Answer items.now.uid (option_copied id.entry) attendee.now) (option_copied result) }
 {
-    // The call tells that each of the items is kept beside the others.
+    // For the proof: the contract of this call says that each of the items is kept beside the others.
     let _kept = items.as_slice();
     items.answer(id, attendee)
 }
 
-/// The later of a stamp and the DTSTAMP of an answer, where that has this sequence.
+/// The later of a stamp and the DTSTAMP of an answer, if the answer has this sequence; else the stamp.
 ///
-/// `AnswerOvertakes` where it has a greater one.
+/// Fails with `AnswerOvertakes` if the answer has a greater one.
 fn with_answer(
     latest: Option<Stamp>,
     answer: Option<&Item>,
@@ -232,9 +232,9 @@ fn with_answer(
     }
 }
 
-/// The octets of a message that removes the attendees of these lines.
+/// The bytes of a message that removes the attendees on these lines.
 ///
-/// `Unreadable` where they aren't read again.
+/// Fails with `Unreadable` if they can't be read back.
 fn removal_octets(
     alloc: Global,
     uid: &Uid,

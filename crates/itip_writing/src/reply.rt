@@ -31,16 +31,16 @@ pub(crate) struct Revision {
     pub stamp: Stamp,
 }
 
-/// The answer of an attendee to a to-do as a whole, or to an instance of it, where it is written at a moment (RFC 5546 3.4.3).
+/// The answer of an attendee to a to-do as a whole or to an instance of it, written at the moment `at` (RFC 5546 3.4.3).
 ///
-/// It is a REPLY with UID, DTSTAMP, the ORGANIZER of the item that governs the row in question, the RECURRENCE-ID that is given,
-/// PERCENT-COMPLETE where the answer has it, and the ATTENDEE with PARTSTAT, whose address is as the item has it. SEQUENCE is the
-/// greater of that of the item and that of the kept answer of the attendee; DTSTAMP is the moment, or one second after that answer,
-/// where this has the same SEQUENCE and isn't before the moment.
+/// It is a REPLY with UID, DTSTAMP, the ORGANIZER of the item that governs the row in question, the RECURRENCE-ID `id`,
+/// PERCENT-COMPLETE if the answer has it, and ATTENDEE with PARTSTAT and the address as the item spells it. SEQUENCE is the greater of
+/// that of the item and that of the kept answer of the attendee. DTSTAMP is `at`, or one second after that answer if it has the same
+/// SEQUENCE and isn't before `at`.
 ///
-/// `NothingStands` where there is no row in question, `NoSuchAttendee` where it shows no attendee of this address, `NoTimeLeft` where
-/// there is no second after that answer, and `Unreadable` where the message isn't read again: it is too long, or the percentage is
-/// above 100.
+/// Fails with `NothingStands` if there is no row in question, with `NoSuchAttendee` if it shows no attendee with this address, with
+/// `NoTimeLeft` if there is no second after that answer, with `Unreadable` if the message can't be read back, being too long or with a
+/// percentage above 100, and with `NoMemory` if an allocation fails.
 pub fn reply_to(
     alloc: Global,
     state: &State,
@@ -57,7 +57,7 @@ pub fn reply_to(
     reply_of(alloc, &items, id, answer, at)
 }
 
-/// The same, where these are the kept items of the UID.
+/// The same, given the kept items of the UID.
 fn reply_of(
     alloc: Global,
     items: &ItemsOfUid<'_>,
@@ -78,9 +78,9 @@ fn reply_of(
     Ok(Message { octets, lacking })
 }
 
-/// SEQUENCE and DTSTAMP of an answer that is written at a moment.
+/// SEQUENCE and DTSTAMP of an answer that is written at the moment `at`.
 ///
-/// `NoTimeLeft` where an answer of the same sequence has the last DTSTAMP that there is.
+/// Fails with `NoTimeLeft` if an answer with the same sequence has the last possible DTSTAMP.
 fn answer_revision(
     items: &ItemsOfUid<'_>,
     id: Option<&Moment>,
@@ -98,7 +98,7 @@ fn answer_revision(
     Ok(Revision { sequence, stamp })
 }
 
-/// The key of what an attendee answers.
+/// The key of an attendee's answer.
 fn answer_key(uid: &Uid, id: Option<&Moment>, attendee: &Text) -> Result<Key, NoMemory>
     ensures { IfOk result (λ key. key ≡ keys.Answer uid.now (option_copied id.entry) attendee.now) }
 {
@@ -108,7 +108,7 @@ fn answer_key(uid: &Uid, id: Option<&Moment>, attendee: &Text) -> Result<Key, No
     Ok(Key::Answer(uid, id, attendee))
 }
 
-/// A copy of a recurrence id, where there is one.
+/// A copy of a recurrence id, if there is one.
 pub(crate) fn copied_id(id: Option<&Moment>) -> Result<Option<Moment>, NoMemory>
     ensures { IfOk result (λ copy. copy ≡ option_copied id.entry) }
 {
@@ -118,7 +118,7 @@ pub(crate) fn copied_id(id: Option<&Moment>) -> Result<Option<Moment>, NoMemory>
     }
 }
 
-/// The greater of a sequence and that of an answer, where there is one.
+/// The greater of a sequence and that of an answer, if there is one.
 fn no_less(own: u32, answer: Option<&Item>) -> u32
     ensures { result ≡ no_less own (option_copied answer.entry) }
 {
@@ -128,7 +128,7 @@ fn no_less(own: u32, answer: Option<&Item>) -> u32
     }
 }
 
-/// The octets of an answer.
+/// The bytes of an answer.
 fn reply_octets(
     alloc: Global,
     uid: &Uid,
@@ -156,7 +156,7 @@ fn reply_octets(
     write_alone(alloc, Method::Reply, brief)
 }
 
-/// The ATTENDEE line of an answer, alone: the address, and PARTSTAT.
+/// A list of one ATTENDEE line, that of an answer: the address, and PARTSTAT.
 fn answer_line(alloc: Global, address: &Text, status: PartStat) -> Result<Vec<Property>, NoMemory>
     ensures { IfOk result (λ lines. lines.items ≡ answer_line address.now status ∷ []) }
 {

@@ -25,15 +25,16 @@ use itip_todo::{Todo, Uid};
 use std::alloc::Global;
 use std::collections::BTreeMap;
 
-/// The request of a draft (RFC 5546 3.4.2): one REQUEST with its to-dos in their order, DTSTAMP being the moment of writing, and
-/// SEQUENCE the next of the UID, which is 0 where nothing is kept that its organizer has sent. X-DESK-BASE stays where it is above
-/// that, and all other properties stay.
+/// The request of a draft (RFC 5546 3.4.2): one REQUEST with the to-dos of the draft in their order. DTSTAMP is `at`, the moment of
+/// writing. SEQUENCE is the next of the UID, which is 0 if nothing sent by its organizer is kept. X-DESK-BASE stays if it is greater
+/// than that; all other properties stay.
 ///
-/// Each item of the request is later than all of its key that the state was made of: its sequence is greater, so that DTSTAMP need
-/// not be. What RFC 5546 wants and a to-do lacks is told, and the request is written all the same.
+/// Each item of the request is later than everything heard of its key: its sequence is greater, so its DTSTAMP need not be. What
+/// RFC 5546 requires and a to-do lacks is returned in `lacking`; the request is written all the same.
 ///
-/// `NoSequenceLeft` where a UID has none left, `TwoOfOneKey` where two to-dos have one UID, one RECURRENCE-ID and one RANGE, and
-/// `Unreadable` where the request is not read again: it is too long, or the draft has no to-do.
+/// Fails with `NoSequenceLeft` if a UID has none left, with `TwoOfOneKey` if two to-dos have the same UID, RECURRENCE-ID and RANGE, with
+/// `Unreadable` if the request can't be read back, as when it is too long or the draft has no to-do or more than 1,000, and with
+/// `NoMemory` if an allocation fails.
 pub fn request_of(
     alloc: Global,
     state: &State,
@@ -49,7 +50,7 @@ pub fn request_of(
     Ok(Message { octets, lacking })
 }
 
-/// The octets of the request of a draft.
+/// The bytes of the request of a draft.
 fn request_octets(
     alloc: Global,
     state: &State,
@@ -70,7 +71,7 @@ fn request_octets(
     Ok(octets)
 }
 
-/// The to-dos of a draft as they are written at a moment.
+/// The to-dos of a draft as they are written at the moment `at`.
 fn requested(
     alloc: Global,
     state: &State,
@@ -89,7 +90,7 @@ fn requested(
     Ok(all)
 }
 
-/// The next SEQUENCE of a UID. It is known from then on, so that the items of a UID are gone through once.
+/// The next SEQUENCE of a UID. It is noted in `known`, so that each UID is looked up in the state only once.
 fn sequence_of(
     state: &State,
     known: &mut BTreeMap<Uid, u32>,
@@ -123,7 +124,7 @@ fn note(known: &mut BTreeMap<Uid, u32>, uid: &Uid, sequence: u32) -> Result<(), 
     Ok(())
 }
 
-/// A to-do of a draft as it is written at a moment with this SEQUENCE.
+/// A to-do of a draft as it is written at the moment `at` with this SEQUENCE.
 fn written(todo: &Todo, at: Stamp, sequence: u32) -> Result<Todo, NoMemory>
     requires { sequence ≤ 2147483647 }
     ensures { IfOk result (λ written. parts_of written ≡ requested at sequence (parts_of todo.now)) }
@@ -135,7 +136,7 @@ fn written(todo: &Todo, at: Stamp, sequence: u32) -> Result<Todo, NoMemory>
     Ok(copy)
 }
 
-/// X-DESK-BASE where it is above the SEQUENCE.
+/// X-DESK-BASE if it is greater than the SEQUENCE, else `None`.
 fn base_above(sequence: u32, base: Option<u32>) -> Option<u32>
     ensures { result ≡ base_above sequence base }
 {
@@ -145,7 +146,7 @@ fn base_above(sequence: u32, base: Option<u32>) -> Option<u32>
     }
 }
 
-/// Whether two to-dos are of one key. Each is compared with those behind it: of more than 1,000 no message is read again.
+/// Whether two to-dos have the same key. Each is compared with all after it; a message of more than 1,000 can't be read back anyway.
 fn has_twins(draft: &[Todo]) -> bool
     ensures { result ≡ has_twins draft.now }
 {
@@ -159,14 +160,14 @@ fn has_twins(draft: &[Todo]) -> bool
     false
 }
 
-/// Whether one of the others is of the key of a to-do.
+/// Whether one of the others has the key of a to-do.
 fn has_twin(todo: &Todo, others: &[Todo]) -> bool
     ensures { result ≡ list_any (is_twin todo.now) others.now }
 {
     others.iter().any(|other| is_twin(todo, other))
 }
 
-/// Whether two to-dos are of one key. Only one of an instance has a RANGE.
+/// Whether two to-dos have the same key. Only the to-do of an instance can have a RANGE.
 fn is_twin(todo: &Todo, other: &Todo) -> bool
     ensures { result ≡ is_twin todo.now other.now }
 {

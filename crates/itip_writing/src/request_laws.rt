@@ -1,4 +1,4 @@
-//! What holds of requests, of every finite set of items heard before. The functions do nothing: their contracts are the laws.
+//! What holds of requests, whatever finite set of items was heard before. The functions do nothing: their contracts are the laws.
 ghost use Rattle.std.specs.Prelude.{◌≡◌, ◌≢◌, ◌++◌, ℕ, List, map};
 ghost use Rattle.std.specs.List.{AllByRecursion, AllZip};
 ghost use Rattle.itip_moment.specs.declared.stamp.Stamp.{Stamp};
@@ -12,8 +12,8 @@ ghost use Rattle.itip_writing.specs.Requesting.{IsRequest, CannotRequest, Stands
 ghost use Rattle.itip_writing.specs.declared.error.WritingError.{WritingError};
 ghost use Rattle.itip_writing.specs.declared.error.WritingError.TheVariants as error;
 
-/// A desk that has heard what the writer had heard, and then the request: there each to-do of the draft is the latest of its key, and
-/// stands. No line of the draft begins or ends a component, as it is in one that was read
+/// At a desk that has heard what the writer had heard, and then the request, each to-do of the draft is the latest of its key, and
+/// stands. This assumes that no line of the draft begins or ends a component, as in a draft that was read
 /// ([`one_draft`](itip_message::one_draft)).
 pub fn request_stands()
     ensures { (heard items : List Item) (draft : List Todo) (at : Stamp) (octets : List ℕ)
@@ -21,7 +21,7 @@ pub fn request_stands()
         → AllZip (λ todo item. StandsLive (heard ++ items) (key_of todo) item) draft items }
 {}
 
-/// A draft has one request, or one cause why there is none, and not both.
+/// A draft has at most one request, and at most one cause other than `NoMemory` why there is none, and never both.
 pub fn one_request()
     ensures octets { (heard : List Item) (draft : List Todo) (at : Stamp) (octets others : List ℕ) → IsRequest heard draft at octets
         → IsRequest heard draft at others → octets ≡ others }

@@ -7,7 +7,7 @@ use itip_moment::Moment;
 use itip_todo::write_recurrence_id;
 use std::alloc::AllocError;
 
-/// Appends RECURRENCE-ID of an instance, or of it and all after it (RFC 5545 3.2.13), where there is one.
+/// Appends the RECURRENCE-ID of an instance, or of it and all after it (RFC 5545 3.2.13), if there is one.
 pub(crate) fn write_rid(
     range: bool,
     id: Option<&Moment>,

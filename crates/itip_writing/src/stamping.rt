@@ -36,10 +36,10 @@ fn next_second(stamp: Stamp) -> Option<Stamp>
     None
 }
 
-/// The DTSTAMP of a message that is written at a moment: that moment, or one second after the latest of the stamps that it has to
-/// be after, where that is not before the moment.
+/// The DTSTAMP of a message that is written at the moment `at`: `at` itself, or one second after `latest`, the latest of the stamps
+/// that it has to be after, if that is not before `at`.
 ///
-/// `NoTimeLeft` where there is no such second.
+/// Fails with `NoTimeLeft` if there is no such second.
 pub(crate) fn stamp_after(at: Stamp, latest: Option<Stamp>) -> Result<Stamp, WritingError>
     ensures stamp { IfOk result (IsStampBehind latest at) }
     ensures spent { IfErr result (IfLate (IsSpentBehind latest at)) }
@@ -50,7 +50,9 @@ pub(crate) fn stamp_after(at: Stamp, latest: Option<Stamp>) -> Result<Stamp, Wri
     }
 }
 
-/// The DTSTAMP of a message that is written at a moment and has to be after a stamp.
+/// The DTSTAMP of a message that is written at the moment `at` and has to be after a stamp.
+///
+/// Fails with `NoTimeLeft` if no second is left for it.
 fn stamp_behind(at: Stamp, latest: Stamp) -> Result<Stamp, WritingError>
     ensures stamp { IfOk result (IsStampBehind (Some latest) at) }
     ensures spent { IfErr result (IfLate (IsSpentBehind (Some latest) at)) }
@@ -64,16 +66,16 @@ fn stamp_behind(at: Stamp, latest: Stamp) -> Result<Stamp, WritingError>
     }
 }
 
-/// The kept item of a key, or `None` where none is kept. It takes no memory.
+/// The kept item of a key, or `None` if none is kept. Allocates nothing.
 pub(crate) fn kept_item<'a>(items: &ItemsOfUid<'a>, key: &Key) -> Option<&'a Item>
     ensures { IsKeptOf items.now.items key.now (option_copied result) }
 {
-    // The call tells that each of the items is kept beside the others.
+    // For the proof: the contract of this call says that each of the items is kept beside the others.
     let _kept = items.as_slice();
     items.best(key)
 }
 
-/// The DTSTAMP of the kept item of a key, where it has this effective sequence; `None` where none has. It takes no memory.
+/// The DTSTAMP of the kept item of a key if it has this effective sequence, else `None`. Allocates nothing.
 pub(crate) fn latest_equal(items: &ItemsOfUid<'_>, key: &Key, sequence: u32) -> Option<Stamp>
     ensures { IsLatestOf (IsEqualRevision items.now.items (key.now ∷ []) sequence) result }
 {
@@ -89,7 +91,7 @@ fn equal_stamp(item: Option<&Item>, sequence: u32) -> Option<Stamp>
     }
 }
 
-/// The later of two stamps, of which the first may be absent.
+/// The later of two stamps; the first may be absent.
 pub(crate) fn later_stamp(stamp: Option<Stamp>, other: Stamp) -> Stamp
     ensures { result ≡ later_stamp stamp other }
 {

@@ -1,4 +1,4 @@
--- The numbers of errors, and the errors that those of the crates below turn into (our own).
+-- The numbers of errors, and the errors that those of the crates below turn into (our own rule).
 use Rattle.std.specs.Prelude.{ℕ}
 use Rattle.itip_desk.specs.Refusals as refusals
 use Rattle.itip_desk.specs.declared.error.DeskError.{DeskError}

@@ -1,4 +1,4 @@
-//! Why a call refused.
+//! Why a call failed.
 ghost use Rattle.std.specs.Prelude.{◌≡◌};
 ghost use Rattle.itipdesk.specs.declared.error.Error.TheVariants as gives;
 
@@ -14,22 +14,23 @@ use itip_writing::WritingError;
 use std::alloc::{AllocError, AllocFailed};
 use std::fmt;
 
-/// Why a call refused: what is wrong, under the number that the program shows for it.
+/// Why a call failed: what is wrong, with the number that the program shows for it.
 #[derive(Clone, Copy, PartialEq, Eq, Debug)]
 pub enum Error {
-    /// A message, a list, the file of a desk, or what a desk or a packet was asked for (1 to 15, 21, 31, 50, 51, 70 to 72).
+    /// A message, a list, a script, the file of a desk, or what a desk or a packet was asked for is refused (1 to 15, 21, 31, 50, 51,
+    /// 60 to 62, 70 to 72).
     Refused(Refusal),
     /// A count is spent: the ticks of a desk, or the batches of a running desk or of an office (21).
     Spent,
-    /// The days are no window: none, or more than 3,660 (30).
+    /// The days are no window: there are none, or more than 3,660 (30).
     Window,
     /// A text is no day, or no date-time in UTC (33).
     Text,
-    /// Memory was refused (40).
+    /// An allocation failed, or a running desk has `usize::MAX` batches pending (40).
     NoMemory,
     /// A thread could not be made, or a running desk had no place for a reader (41).
     NoPlace,
-    /// A running desk let nobody in (45).
+    /// A running desk refused entry (45).
     NoEntry,
     /// An office ended early (42 to 44).
     Office(OfficeError),

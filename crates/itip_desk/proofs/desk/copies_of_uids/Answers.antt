@@ -1,5 +1,4 @@
-use Rattle.std.proofs.Common.{◌≡◌, ◌∙◌, ◌∷◌, [], ℕ, List, map, ap, subst, sym}
-use Rattle.itip_items.specs.declared.item.Item.{Item}
+use Rattle.std.proofs.Common.{◌∙◌, [], map, subst}
 use Rattle.itip_state.specs.Kept.{AreUidsOf}
 use Rattle.itip_state.proofs.Nothing.{no_uids, no_view, not_ok}
 use Rattle.itip_desk.proofs.desk.copies_of_uids.Goals as goal

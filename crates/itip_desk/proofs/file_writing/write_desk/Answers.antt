@@ -19,7 +19,7 @@ are g c =
     items_seen c.deref-item-items.result.now c.in_ok-items.items.items c.state.result.now c.args.desk.now.kept
     c.deref-item-items.ensures.value c.state.ensures c.in_ok-items.ensures.items
 
--- with one message more
+-- with one more message
 more : (g : _) (c : In_ok-append_item g) →
     WritesSoFar c.args.desk.now.changed (head_of c.args.desk.now.tick c.deref-item-items.result.now) None c.deref-item-items.result.now
     (c.loop-item.item-index + 1) (g.W.Write.contents c.args.writer.now) (g.W.Write.contents c.loop-item.writer) c.append_item.new.file.items

@@ -1,4 +1,4 @@
-use Rattle.std.proofs.Common.{◌≡◌, [], List, refl}
+use Rattle.std.proofs.Common.{refl}
 use Rattle.itip_state.proofs.Nothing.{not_ok}
 use Rattle.itip_desk.specs.Entries.{name_cmp, name_entry, address_number}
 use Rattle.itip_desk.proofs.Finding.{none_there, nil_if, not_nil}

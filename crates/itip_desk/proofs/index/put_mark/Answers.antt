@@ -1,4 +1,4 @@
-use Rattle.std.proofs.Common.{◌≡◌, ◌||◌, ◌∙◌, ap, inl, refl}
+use Rattle.std.proofs.Common.{◌||◌, ◌∙◌, ap, inl, refl}
 use Rattle.std.proofs.Common.{Result, Ok, Err}
 use Rattle.std.specs.Prelude.{OnErr}
 use Rattle.itip_desk.specs.Entries.{same_entry}

@@ -8,7 +8,7 @@ use Rattle.itip_desk.proofs.WritingRows.{on_err, texts_none, texts_more, texts_f
 use Rattle.itip_desk.proofs.row_writing.write_some_rows.Goals as goal
 use Rattle.itip_desk.proofs.row_writing.write_some_rows.Goals.{In_ok-put}
 
--- the text of one row more is kept
+-- the text of one more row is kept
 more : (g : _) (c : In_ok-put g)
     → MovesOut (g.W.Write.contents c.args.writer.now) (g.W.Write.contents c.loop-row.writer)
     (c.args.kept.now.items ++ flat_map (g.F.RowForm.octets c.args.form.now) (take (c.loop-row.row-index + 1) c.args.rows.now))
@@ -25,7 +25,7 @@ more g c =
     c.put.new.out.items
     (c.in_ok-put.ensures ∙ ap (λ t. c.loop-row.kept.items ++ t) (sym (append-nil (g.F.RowForm.octets c.args.form.now row)))))
 
--- all rows, those up to this one and those behind it
+-- all rows: those up to this one and those after it
 cut : (n : _) (rows : List Row) → take n rows ++ drop n rows ≡ rows
 cut n rows = take-append-drop n rows
 

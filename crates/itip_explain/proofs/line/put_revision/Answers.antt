@@ -6,7 +6,7 @@ use Rattle.itip_moment.specs.Written.{stamp_text}
 use Rattle.itip_state.proofs.Members.{on_ok_then}
 use Rattle.itip_explain.proofs.line.put_revision.Goals as goal
 
--- one after the other
+-- four texts appended one after another
 in_turn : (line a b c d after_a after_b after_c after : List ℕ) → after_a ≡ line ++ a → after_b ≡ after_a ++ b → after_c ≡ after_b ++ c →
     after ≡ after_c ++ d → after ≡ line ++ (a ++ (b ++ (c ++ d)))
 in_turn line a b c d after_a after_b after_c after p q r s =

@@ -7,7 +7,7 @@ use Rattle.itip_explain.specs.Knowing.{told_to}
 use Rattle.itip_explain.specs.declared.told.ToldItem.{ToldItem}
 use Rattle.itip_explain.proofs.text.lines.Goals as goal
 
--- a line more before the rest
+-- one more line before the rest
 line_more : (told : List ToldItem) (names : List SourceName) (items : List ToldItem) (i : ℕ) (one : ToldItem) (line before after : List ℕ) →
     items ≡ told → i < length items → one ≡ get_or items i one
     → ((rest : List ℕ) → AreLines told names (drop (i + 1) told) rest → AreLines told names (one ∷ drop (i + 1) told) (line ++ rest))

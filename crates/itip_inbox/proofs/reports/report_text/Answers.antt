@@ -16,7 +16,7 @@ returns c =
     IsReportText c.args.name c.args.state.now window text.items) c.ended_lines.result
     (λ text is window all left has. record {
       lines = map string_bytes c.in_ok-lines.lines.items;
-      are_lines = c.in_ok-lines.ensures window all left has;
+      are_lines = c.in_ok-lines.ensures.lines window all left has;
       text_is = is ∙ ap (λ lines. flat_map ended (map string_bytes lines)) c.as_slice.ensures.value;
     })
     c.ended_lines.ensures

@@ -84,7 +84,7 @@ loop-item-preserved c =
       }
     ]
 
--- A refusal changes nothing of what was heard by then.
+-- A failed allocation changes nothing of what was heard by then.
 pub returns-in_err-hear-clause-stays : goal.returns-in_err-hear-clause-stays
 returns-in_err-hear-clause-stays c = λ are.
     subst (AreOfShard c.args.count c.args.number) (sym c.in_err-hear.ensures.err) (c.loop-item.invariant.stays are)

@@ -5,7 +5,7 @@ use Rattle.std.proofs.lemmas.Nat.{mod_below}
 use Rattle.itip_inbox.specs.ShardOf.{mixed, number_of}
 use Rattle.itip_inbox.proofs.shard.number_of.Goals as goal
 
--- one octet more
+-- one byte more
 mixed_more : (octets : List ℕ) (at n d octet : ℕ) → at < length octets → octet ≡ get_or octets at d → n ≡ number_of (take at octets) →
     mixed n octet ≡ number_of (take (at + 1) octets)
 mixed_more octets at n d octet below is so =

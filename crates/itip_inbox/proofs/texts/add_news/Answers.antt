@@ -6,7 +6,7 @@ use Rattle.itip_state.specs.Told.{AreNews}
 use Rattle.itip_inbox.proofs.Keeping.{news_both}
 use Rattle.itip_inbox.proofs.texts.add_news.Goals as goal
 
--- the news of a batch are those of its items
+-- the news of a batch is that of its items
 news_given : (kept items batch slice news told : List Item) → IsItemsOf batch items → slice ≡ batch → AreNews kept slice news →
     told ≡ news → AreNews kept items told
 news_given kept items batch slice news told batch_is is are same =

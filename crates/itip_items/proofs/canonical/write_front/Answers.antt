@@ -2,7 +2,7 @@ use Rattle.std.proofs.Common.{◌≡◌, ◌∙◌, ap, ◌++◌, List, ℕ, sub
 use Rattle.std.specs.Prelude.{IfOk}
 use Rattle.itip_todo.specs.PartsOf.{parts_of}
 use Rattle.itip_todo.specs.Written.{contents_octets}
-use Rattle.itip_items.specs.Items.{front_octets, opening_contents}
+use Rattle.itip_items.specs.Items.{opening_contents}
 use Rattle.itip_items.proofs.Composing.{front_is}
 use Rattle.itip_items.proofs.canonical.write_front.Goals as goal
 

@@ -1,18 +1,15 @@
-use Rattle.std.proofs.Common.{◌≡◌, ◌∙◌, sym, ap, List, [], ◌∷◌, subst, Option, Some, None, inl, inr, true, refl, map, ◌⊎◌}
+use Rattle.std.proofs.Common.{◌≡◌, ◌∙◌, sym, ap, List, [], ◌∷◌, subst, inl, inr, true, refl, map, ◌⊎◌}
 use Rattle.std.specs.Prelude.{OnOk, IfErr}
-use Rattle.itip_moment.specs.declared.moment.Moment.{Moment}
 use Rattle.itip_todo.specs.Parts.{Parts}
 use Rattle.itip_todo.specs.PartsOf.{parts_of}
-use Rattle.itip_items.specs.Items.{ItemDraft, attendee_draft, drafts_of, add_drafts, kind_of, raised, is_task, instance_draft, method_of}
-use Rattle.itip_items.specs.Items.{IsCanonical}
+use Rattle.itip_items.specs.Items.{ItemDraft, attendee_draft, drafts_of, kind_of, raised, is_task, method_of}
 use Rattle.itip_items.specs.Given.{Adds, IsOver, IfLarge}
 use Rattle.itip_items.specs.Needs.{Suits}
-use Rattle.itip_items.specs.declared.key.Key.{Key}
 use Rattle.itip_items.specs.declared.kind.Kind.{Kind}
 use Rattle.itip_items.specs.declared.kind.Method.{Method}
 use Rattle.itip_items.specs.declared.kind.Kind.TheVariants as kind
-use Rattle.itip_items.proofs.Adding.{adds_one, adds_none}
-use Rattle.itip_items.proofs.Drafting.{sends, add_canonical, task_drafts}
+use Rattle.itip_items.proofs.Adding.{adds_one}
+use Rattle.itip_items.proofs.Drafting.{sends, task_drafts}
 use Rattle.itip_items.proofs.make.add_items.Goals as goal
 
 -- the kind is that of an added instance

@@ -3,7 +3,7 @@ use Rattle.std.specs.Prelude.{IfOk, IfErr}
 use Rattle.std.proofs.Common.{◌∷◌, []}
 use Rattle.itip_todo.specs.Parts.{Parts}
 use Rattle.itip_todo.specs.PartsOf.{parts_of}
-use Rattle.itip_items.specs.Items.{ItemDraft, attendee_draft, attendee_key_of, draft_of, only_of, IsCanonical, IsFrontOf}
+use Rattle.itip_items.specs.Items.{ItemDraft, IsCanonical, IsFrontOf}
 use Rattle.itip_items.specs.Given.{Gives, IsOver, IfLarge}
 use Rattle.itip_items.specs.declared.key.Key.{Key}
 use Rattle.itip_items.specs.declared.kind.Kind.{Kind}

@@ -1,7 +1,5 @@
-use Rattle.std.proofs.Common.{sym, subst, List, ℕ, None}
-use Rattle.itip_todo.specs.Parts.{Parts}
+use Rattle.std.proofs.Common.{None}
 use Rattle.itip_todo.specs.PartsOf.{parts_of}
-use Rattle.itip_items.specs.Items.{draft_of, with_base, IsCanonical}
 use Rattle.itip_items.specs.declared.key.Key.TheVariants as key
 use Rattle.itip_items.proofs.Lawfulness.{base_lawful}
 use Rattle.itip_items.proofs.make.series_item.Goals as goal

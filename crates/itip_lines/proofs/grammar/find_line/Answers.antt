@@ -1,6 +1,5 @@
-use Rattle.std.proofs.Common.{◌≡◌, ◌∙◌, ◌++◌, ◌∷◌, ℕ, List, sym, ap, subst, length, arith}
+use Rattle.std.proofs.Common.{◌∙◌, ◌++◌, ◌∷◌, ℕ, List, sym, ap, subst, arith}
 use Rattle.std.specs.Str.{IsUtf8, str_to_ascii_uppercase}
-use Rattle.itip_lines.specs.Finding.{or_anew}
 use Rattle.itip_lines.specs.Parts.{WritesTail}
 use Rattle.itip_lines.proofs.Runs.{empty_from_test, some_from_test}
 use Rattle.itip_lines.proofs.Utf8Parts.{utf8_past_name}

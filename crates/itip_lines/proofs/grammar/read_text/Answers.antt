@@ -1,7 +1,5 @@
-use Rattle.std.proofs.Common.{◌≡◌, ◌∙◌, ℕ, List, sym, ap, subst, Option}
-use Rattle.std.specs.Str.{IsUtf8}
+use Rattle.std.proofs.Common.{◌≡◌, ◌∙◌, ℕ, List, sym, subst}
 use Rattle.itip_lines.specs.Finding.{or_anew, IsFoundIn}
-use Rattle.itip_lines.specs.Lawful.{line_limit}
 use Rattle.itip_lines.specs.LinePlaces.{IsLineAt}
 use Rattle.itip_lines.specs.Parts.{LacksLine}
 use Rattle.itip_lines.specs.SeenOctets.{octets_of}

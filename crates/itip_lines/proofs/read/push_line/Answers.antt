@@ -1,5 +1,4 @@
-use Rattle.std.proofs.Common.{◌≡◌, ◌∙◌, ◌<◌, ℕ, List, false, sym, ap, subst, refl, inr, arith, length}
-use Rattle.std.specs.Prelude.{◌==◌}
+use Rattle.std.proofs.Common.{◌<◌, ℕ, List, false, sym, ap, subst, refl, inr, arith, length}
 use Rattle.std.specs.Str.{IsUtf8}
 use Rattle.itip_lines.specs.Reading.{line_at}
 use Rattle.itip_lines.specs.SeenOctets.{octets_of}

@@ -1,4 +1,4 @@
-use Rattle.std.proofs.Common.{◌∙◌, List, [], sym, ap, subst}
+use Rattle.std.proofs.Common.{◌∙◌, List, [], ap, subst}
 use Rattle.std.proofs.lemmas.Result.{err_from_is_err_and}
 use Rattle.itip_lines.specs.Cutting.{NumberedText}
 use Rattle.itip_lines.specs.Stretches.{texts_behind}

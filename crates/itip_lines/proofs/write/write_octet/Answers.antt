@@ -1,4 +1,4 @@
-use Rattle.std.proofs.Common.{◌≡◌, ◌+◌, ◌<◌, [], ◌∷◌, true, false, arith}
+use Rattle.std.proofs.Common.{◌+◌, ◌<◌, [], ◌∷◌, arith}
 use Rattle.itip_lines.specs.Writing.{following}
 use Rattle.itip_lines.proofs.Rooms.{folded_longer, folded_apart}
 use Rattle.itip_lines.proofs.write.write_octet.Goals as goal

@@ -1,4 +1,4 @@
-use Rattle.std.proofs.Common.{◌≡◌, ◌∙◌, ap, sym, subst, List, ℕ, Option, inr}
+use Rattle.std.proofs.Common.{◌∙◌, ap, sym, subst, List, ℕ, Option, inr}
 use Rattle.itip_lines.specs.Reading.{plain_lines}
 use Rattle.itip_lines.specs.declared.line.NumberedLine.{NumberedLine}
 use Rattle.itip_todo.specs.Reading as todo_reading

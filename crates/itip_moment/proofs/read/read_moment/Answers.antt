@@ -1,8 +1,8 @@
-use Rattle.std.proofs.Common.{◌≡◌, ◌≢◌, ◌∙◌, ℕ, ℤ, List, [], ap, sym, refl, subst, Option, None, Some, unwrap_or}
+use Rattle.std.proofs.Common.{◌≡◌, ◌≢◌, ◌∙◌, [], ap, sym, refl, subst, None, Some, unwrap_or}
 use Rattle.std.proofs.lemmas.Result.{on_err_weaker}
 use Rattle.std.specs.Prelude.{option_copied}
 use Rattle.itip_moment.specs.Room.{IsZonedText}
-use Rattle.itip_moment.specs.Spelling.{IsLocalText, MomentText}
+use Rattle.itip_moment.specs.Spelling.{MomentText}
 use Rattle.itip_moment.specs.Zone.{zone_text}
 use Rattle.itip_moment.specs.declared.moment.Moment.{Moment}
 use Rattle.itip_moment.proofs.MomentLemmas.{found_unzoned, none_unzoned, local_found, copied_or}

@@ -1,4 +1,4 @@
-use Rattle.std.proofs.Common.{◌≡◌, length, ap, arith}
+use Rattle.std.proofs.Common.{length, ap, arith}
 use Rattle.itip_moment.proofs.write.write_moment.Goals as goal
 
 pub returns-in-Date-clause-room : goal.returns-in-Date-clause-room

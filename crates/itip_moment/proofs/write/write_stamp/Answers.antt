@@ -1,4 +1,4 @@
-use Rattle.std.proofs.Common.{◌≡◌, length, ap, arith}
+use Rattle.std.proofs.Common.{length, ap, arith}
 use Rattle.itip_moment.proofs.write.write_stamp.Goals as goal
 
 pub returns-clause-room : goal.returns-clause-room

@@ -11,7 +11,7 @@ use Rattle.itip_office.proofs.Beside.{are_deltas, all_kept_alike, all_some, as_m
 use Rattle.itip_office.proofs.exchange.exchange.Goals as goal
 use Rattle.itip_office.proofs.exchange.exchange.Goals.{In_ok-given, In_ok-taken}
 
--- the second test is whether a desk is alone
+-- the second test is whether there is a single desk
 pub returns-then-len-desks-2-clause-kept : goal.returns-then-len-desks-2-clause-kept
 returns-then-len-desks-2-clause-kept g c = λ hs are.
     let long = c.args.parts.ok.0 in
@@ -21,7 +21,7 @@ returns-then-len-desks-2-clause-kept g c = λ hs are.
 pub returns-then-len-desks-2-clause-each : goal.returns-then-len-desks-2-clause-each
 returns-then-len-desks-2-clause-each g c = λ hs are. some_desks hs c.args.parts.items are
 
--- what is known of the deltas, each still with its error
+-- what is known of the deltas, each of which may still be an error
 each_given : (g : _) (c : In_ok-given g) → (i : ℕ) (d : Shown) (r : Result (List Item) OfficeError) → i < length c.args.parts.items →
     GivesDelta (slice_index_or c.args.parts.items i d) (slice_index_or c.in_ok-given.given.items i r)
 each_given g c =
@@ -38,7 +38,7 @@ returns-in_err-deltas-clause-causes g c =
     rw (p.1, p.2)
     (c.in_err-deltas.ensures.cause (delta_errors c.args.parts.items c.in_ok-given.given.items (given_count g before) (each_given g before)))
 
--- and of the desks
+-- the same for the desks
 each_taken : (g : _) (c : In_ok-taken g) → (i : ℕ) (d : Shown) (r : Result Shown OfficeError) → i < length c.truncate.new.self.items →
     TakesAll c.in_ok-deltas.deltas.items (slice_index_or c.truncate.new.self.items i d) (slice_index_or c.in_ok-taken.taken.items i r)
 each_taken g c =

@@ -12,7 +12,7 @@ use Rattle.itip_office.proofs.Seeing.{shows_here}
 use Rattle.itip_office.proofs.job_loop.look.Goals as goal
 use Rattle.itip_office.proofs.job_loop.look.Goals.{In-Ok, In-Err-TooManyRows}
 
--- the text, and that there are too many rows, of what was seen
+-- the text of what was seen, or that it has too many rows
 text_is : (g : _) (c : In-Ok g) → IsListText (heard c.list-list.result.1.1) c.args.window c.in-Ok.text.items
 text_is g c =
     IfOk-at_ok (λ text. IsListText (heard c.list-list.result.1.1) c.args.window text.items) c.in-Ok.is c.list-list.ensures.text

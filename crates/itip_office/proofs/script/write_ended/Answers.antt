@@ -12,7 +12,7 @@ use Rattle.itip_office.proofs.script.write_ended.Goals.{In_ok-most}
 cut : (n : ℕ) (desks : List Shown) → desks ≡ take n desks ++ drop n desks
 cut n desks = sym (take-append-drop n desks)
 
--- the listing with one list more, of which some was written
+-- the listing with one more list, some of which was written
 more : (g : _) (c : In_ok-most g) (said : Bool) → said ≡ is_some c.in_ok-most.most
     → IsListing c.args.window c.args.refused.now (take (c.loop-number.number + 1) c.args.desks.now)
     (g.W.Write.contents c.args.writer.now) (g.W.Write.contents c.write_list.new.writer)

@@ -15,7 +15,7 @@ pub returns-then-more-count-clause-counted : goal.returns-then-more-count-clause
 returns-then-more-count-clause-counted c =
     none_passed c.args.walk.now.rule.now c.args.walk.now.start.number c.args.count c.args.walk.now.start.in_years
 
--- so many days behind the start, and as many days seen as were counted behind it
+-- `n` days after the first day that follows the start, and as many days seen as were counted after the start
 reached_at : (rule : Rule) (start : ℤ) (count seen : ℕ) (day : ℤ) (n : ℕ) → Counted rule start count seen day → 1 ≤ seen →
     start +ℤ pos 1 +ℤ pos n ≡ day → Counted rule start count (1 + (seen - 1)) (start +ℤ pos 1 +ℤ pos n)
 reached_at rule start count seen day n counted low is =

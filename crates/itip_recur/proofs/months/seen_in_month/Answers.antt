@@ -29,7 +29,7 @@ returns-then-known-clause-walked c =
     subst (λ (n : ℕ). Walked walk.rule.now walk.start.number first.number n (first.number +ℤ pos (month_length first.number))) (sym at)
     (c.requires.met first.number own (λ e. c.if-known.true (at ∙ e)))
 
--- behind the walk through a month of a shape that was not met
+-- after the walk through a month of a shape that was not met
 walked : (c : goal.After-seen_in-seen) → Walked c.args.walk.now.rule.now c.args.walk.now.start.number c.args.first.now.number
     c.seen_in-seen.result (c.args.first.now.number +ℤ pos (month_length c.args.first.now.number))
 walked c =

@@ -1,4 +1,4 @@
-use Rattle.std.proofs.Common.{◌≡◌, refl, subst, Result, Ok}
+use Rattle.std.proofs.Common.{refl, subst, Ok}
 use Rattle.std.specs.Fn.{FnOnceReturnsAtMut}
 use Rattle.itip_running.specs.declared.scope.OpenDesk.{OpenDesk}
 use Rattle.itip_running.proofs.scope.with_desk.Goals as goal

@@ -1,4 +1,4 @@
-use Rattle.std.proofs.Common.{◌≡◌, ◌++◌, ◌∙◌, List, ℕ, map, true, false, sym, subst}
+use Rattle.std.proofs.Common.{◌≡◌, ◌∙◌, List, ℕ, map, true, false, sym, subst}
 use Rattle.itip_items.specs.declared.item.Item.{Item}
 use Rattle.itip_state.specs.Held.{UidState, HoldKept, AreHeld, items_of}
 use Rattle.itip_state.specs.Told.{AreOutdone}
@@ -13,7 +13,7 @@ returns-then-outdoes_all-clause-ok c = λ heard hold.
     let now : HoldKept heard c.hear_each.new.held = subst (HoldKept heard) (sym same) hold in
     outdone_hold c.hear_each.new.held heard items ((c.outdoes_all.ensures now.held).0 c.if-outdoes_all.true) now
 
--- something is news where memory is refused
+-- if an allocation fails, something is news
 pub returns-else-outdoes_all-clause-succeeds : goal.returns-else-outdoes_all-clause-succeeds
 returns-else-outdoes_all-clause-succeeds c = λ held outdone.
     let items : List Item = map (λ item. item.now) c.args.items.now in

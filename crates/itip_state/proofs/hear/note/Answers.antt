@@ -9,7 +9,7 @@ use Rattle.itip_state.proofs.hear.note.Goals as goal
 none_some : {X : Type 0} (x : X) → None ≡ Some x → ⊥
 none_some x e = cc
 
--- a series item is noted only where nothing is held
+-- a series item is noted only if nothing is held
 pub returns-in-None-clause-noted : goal.returns-in-None-clause-noted
 returns-in-None-clause-noted c = absurd (elim c.requires [
   | inl other ↦ let x : true ≡ false = sym c.in-None.ensures ∙ other in cc

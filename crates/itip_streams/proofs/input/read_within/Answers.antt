@@ -2,10 +2,11 @@ use Rattle.std.proofs.Common.{◌≡◌, ◌++◌, ◌∙◌, List, ℕ, suc, re
 use Rattle.std.specs.Io.KnownBytes.{Consumes}
 use Rattle.std.proofs.KnownBytes.{Consumes-trans}
 use Rattle.std.proofs.lemmas.List.{take-append-le}
+use Rattle.itip_streams.proofs.InARow.{gave_some, one_more}
 use Rattle.itip_streams.proofs.input.read_within.Given.{Over}
 use Rattle.itip_streams.proofs.input.read_within.Goals as goal
 
--- what was read stands behind what there was
+-- what was read comes after what there was
 grown : (g : Over) (c : goal.In_ok-extend_from_slice g) →
     c.extend_from_slice.new.self.items ≡ c.loop.text.items ++ take c.in_ok-count.count c.read_some.new.buffer
 grown g c =
@@ -32,3 +33,8 @@ loop-preserved g c = record {
     ),
   );
 }
+
+pub returns-in_err-extend_from_slice-clause-stopped : goal.returns-in_err-extend_from_slice-clause-stopped
+returns-in_err-extend_from_slice-clause-stopped g c = λ _.
+    one_more g.R.ReadOnce.reads _ c.loop.reader _ c.loop.invariant.well
+    (gave_some g.R.ReadOnce.reads _ _ _ _ c.in_ok-count.ensures.once c.if-count-eq0.false)

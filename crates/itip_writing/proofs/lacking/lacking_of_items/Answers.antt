@@ -9,7 +9,7 @@ use Rattle.itip_writing.specs.Lacking.{lacking_of_items, lacking_organizer}
 use Rattle.itip_writing.proofs.MappedTests.{any_mapped}
 use Rattle.itip_writing.proofs.lacking.lacking_of_items.Goals as goal
 
--- what is lacked where an override lacks it, or else where the series item does
+-- what is lacking if an override lacks it, or else if the series item does
 lacked : (organizer : Option Property) (some : Bool) → some ≡ true →
     name.Organizer ∷ [] ≡ cond (is_none organizer || some) (name.Organizer ∷ []) []
 lacked None some is = refl

@@ -9,7 +9,7 @@ use Rattle.itip_items.specs.declared.item.Item.{Item}
 use Rattle.itip_state.proofs.Nothing.{none_after, none_first, not_ok}
 use Rattle.itip_desk.proofs.batch.Batch.of_items.Goals as goal
 
--- an item comes, where there is none
+-- an item can't come if there are none
 none_comes : (done left rest items : List Item) (item : Item) → done ++ left ≡ items → left ≡ item ∷ rest → items ≡ [] → ⊥
 none_comes done left rest items item whole cut none = none_first item rest (sym cut ∙ none_after done left (whole ∙ none))
 
@@ -28,7 +28,7 @@ returns-in_err-push-clause-succeeds c = λ none.
     absurd (none_comes c.loop-item.shared.items (into_iter_items c.loop-item.item-iterator) (into_iter_items c.next.new.self)
     c.args.items.items c.in-Some.item c.loop-item.invariant c.in-Some.ensures.steps.0 none)
 
--- items in another order give the same batch
+-- items in another order make the same batch
 moved_items : (batch before after : List Item) → IsPermutation before after → IsItemsOf batch after → IsItemsOf batch before
 moved_items batch before after moved is = record {
   ascend = is.ascend;

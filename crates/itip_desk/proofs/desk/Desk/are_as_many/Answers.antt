@@ -1,10 +1,9 @@
-use Rattle.std.proofs.Common.{◌≡◌, ◌<◌, ◌≤◌, ◌∙◌, ℕ, List, length, inl, inr, sym, ap, subst, arith}
-use Rattle.itip_items.specs.declared.item.Item.{Item}
+use Rattle.std.proofs.Common.{◌≡◌, ◌∙◌, length, inl, sym, ap, subst, arith}
 use Rattle.itip_state.specs.Kept.{AreUidsOf}
 use Rattle.itip_desk.specs.Desk.{Shown}
 use Rattle.itip_desk.proofs.desk.Desk.are_as_many.Goals as goal
 
--- how many UIDs the desk keeps something of
+-- the number of UIDs of which the desk keeps something
 pub returns-then-all-eq0 : goal.returns-then-all-eq0
 returns-then-all-eq0 c = λ all are.
     let long : length all ≡ c.uid_count-all.result = c.uid_count-all.ensures all (subst (AreUidsOf all)

@@ -8,7 +8,7 @@ use Rattle.itip_desk.specs.Moves.{AreUpTo}
 use Rattle.itip_desk.proofs.Ticking.{delta_is, nothing_since}
 use Rattle.itip_desk.proofs.desk.Desk.delta_since.Goals as goal
 
--- from the tick of the desk on nothing moved
+-- nothing moved after the tick of the desk
 pub returns-then-tick-self-clause-delta : goal.returns-then-tick-self-clause-delta
 returns-then-tick-self-clause-delta c =
     let at : c.self.inside.tick ≡ c.args.self.now.tick = ap (λ (d : Shown). d.tick) c.self.view_is in

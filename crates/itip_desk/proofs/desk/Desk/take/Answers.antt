@@ -15,7 +15,7 @@ use Rattle.itip_desk.proofs.FileTold.{told_on}
 use Rattle.itip_desk.proofs.desk.Desk.take.Goals as goal
 use Rattle.itip_desk.proofs.desk.Desk.take.Goals.{In_ok-uids}
 
--- the news, beside what the desk keeps
+-- the news to what the desk keeps
 abbrev news : (c : In_ok-uids) → List Item
 news c = map (λ item. item.now) c.in_ok-news.news.items
 
@@ -145,7 +145,7 @@ invariant_of-self-2 c =
           c.self.inside.tick (c.self.inside.tick + 1) (omega arith) c.self.invariant.1 places marked,
     )
 
--- a batch of which nothing is news moves nothing
+-- a batch without news moves nothing
 still : (c : In_ok-uids) → IsBelow c.args.batch.now c.args.self.now.kept → length c.in_ok-uids.uids.items ≡ 0
 still c below =
     let none : news c ≡ [] = no_news c.args.self.now.kept c.args.batch.now (news c) (are_news c) below in

@@ -1,4 +1,4 @@
-use Rattle.std.proofs.Common.{◌≡◌, ◌∙◌, ℕ, List, [], map, true, subst, sym, inr}
+use Rattle.std.proofs.Common.{◌≡◌, ◌∙◌, ℕ, List, map, true, subst, sym, inr}
 use Rattle.std.specs.List.{Contains}
 use Rattle.itip_todo.specs.Table.{attendee_key}
 use Rattle.itip_items.specs.KeyParts.{uid_of}

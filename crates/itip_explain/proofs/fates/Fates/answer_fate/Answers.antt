@@ -8,7 +8,7 @@ use Rattle.itip_explain.specs.Knowing.{heard_by}
 use Rattle.itip_explain.proofs.Becoming.{question_up, no_question_up}
 use Rattle.itip_explain.proofs.fates.Fates.answer_fate.Goals as goal
 
--- what is found, or that nothing is
+-- what is found to be in question, or that nothing is
 abbrev IsItemInQuestion : List Item → List ℕ → Option Moment → Option (Bor Item) → Type 0
 IsItemInQuestion items uid id found = MatchOption (option_copied found) (NoneInQuestion items uid id) (IsInQuestion items uid id)
 

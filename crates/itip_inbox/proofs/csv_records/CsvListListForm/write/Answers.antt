@@ -16,7 +16,7 @@ use Rattle.itip_inbox.proofs.csv_records.CsvListListForm.write.Goals.{In_ok-put_
 heads : (g : Over) (c : In_ok-put_heads g) → c.put_heads.new.out.items ≡ record_text field_names
 heads g c = c.in_ok-put_heads.ensures ∙ ap (λ (t : List ℕ). t ++ record_text field_names) c.new-kept.ensures.items
 
--- what was written of the rows, and what is kept
+-- what was written of the rows, and what is kept to be written
 moved : (g : Over) (c : In_ok-write_rows g) (all : List Row) (are : AreLeft c.args.rows all) →
     MovesOut (g.W.Write.contents c.args.writer.now) (g.W.Write.contents c.write_rows.new.writer) (csv_text all)
     c.write_rows.new.kept.items

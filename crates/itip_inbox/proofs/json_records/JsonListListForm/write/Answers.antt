@@ -13,7 +13,7 @@ use Rattle.itip_inbox.proofs.json_records.JsonListListForm.write.Given.{Over}
 use Rattle.itip_inbox.proofs.json_records.JsonListListForm.write.Goals as goal
 use Rattle.itip_inbox.proofs.json_records.JsonListListForm.write.Goals.{In_ok-first, In_ok-done}
 
--- there is no row, where the first rows are none
+-- there is no row if there are no first rows
 no_row : (g : Over) (c : In_ok-first g) → (vec_len c.in_ok-first.first == 0) ≡ true → (all : List Row) → AreLeft c.args.rows all → all ≡ []
 no_row g c none all are =
     (c.in_ok-first.ensures all are).3 (empty_by c.in_ok-first.first.items (vec_len c.in_ok-first.first)

@@ -11,7 +11,7 @@ use Rattle.itip_inbox.proofs.list_form.TextListListForm.write.Given.{Over}
 use Rattle.itip_inbox.proofs.list_form.TextListListForm.write.Goals as goal
 use Rattle.itip_inbox.proofs.list_form.TextListListForm.write.Goals.{In_ok-write_rows}
 
--- what was written of the rows, and what is kept
+-- what was written of the rows, and what is kept to be written
 moved : (g : Over) (c : In_ok-write_rows g) (all : List Row) (are : AreLeft c.args.rows all) →
     MovesOut (g.W.Write.contents c.args.writer.now)
     (g.W.Write.contents c.write_rows.new.writer) (list_text all) c.write_rows.new.kept.items

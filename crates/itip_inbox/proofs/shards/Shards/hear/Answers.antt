@@ -26,7 +26,7 @@ each g c n d below =
 as_many : (g : _) (c : After-for_each_mut g) → length c.for_each_mut.new.s ≡ length c.self.inside.shards.items
 as_many g c = omega (arith, c.for_each_mut.auto.s, ap length c.as_mut_slice.ensures.value)
 
--- and all of them are what the vector has
+-- and together they are what the vector has
 whole : (g : _) (c : After-for_each_mut g) → take c.self.inside.shards.len (c.for_each_mut.new.s ++ drop (length c.for_each_mut.new.s)
     c.self.inside.shards.items) ≡ c.for_each_mut.new.s
 whole g c = back_whole c.for_each_mut.new.s c.self.inside.shards.items c.self.inside.shards.len (omega (arith, c.self.inside.shards.ok.0))

@@ -1,4 +1,4 @@
-use Rattle.std.proofs.Common.{◌≡◌, ap, length, length-append, arith}
+use Rattle.std.proofs.Common.{ap, length, length-append, arith}
 use Rattle.itip_items.proofs.octets.Octets.len.Goals as goal
 
 pub returns : goal.returns

@@ -1,6 +1,5 @@
 use Rattle.std.proofs.Common.{◌∙◌, sym, ap, subst}
 use Rattle.std.specs.Str.{IsUtf8}
-use Rattle.itip_lines.specs.LinePlaces.{line_in}
 use Rattle.itip_lines.specs.Writing.{unfolded_text}
 use Rattle.itip_lines.proofs.LinePlaces.{text_of}
 use Rattle.itip_lines.proofs.Roundtrip.{utf8_line}

@@ -1,5 +1,4 @@
-use Rattle.std.proofs.Common.{◌≡◌, ◌∙◌, ℕ, List, sym, ap, subst, length, arith}
-use Rattle.itip_lines.specs.Writing.{unfolded_text}
+use Rattle.std.proofs.Common.{◌∙◌, ap, length, arith}
 use Rattle.itip_lines.proofs.LinePlaces.{stands_at, line_copied, copied_short}
 use Rattle.itip_lines.proofs.seen_line.SeenLine.copy.Goals as goal
 

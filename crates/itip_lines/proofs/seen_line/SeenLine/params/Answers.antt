@@ -1,4 +1,4 @@
-use Rattle.std.proofs.Common.{◌∙◌, sym, subst}
+use Rattle.std.proofs.Common.{sym, subst}
 use Rattle.std.specs.Str.{IsUtf8}
 use Rattle.itip_lines.proofs.Roundtrip.{utf8_params}
 use Rattle.itip_lines.proofs.seen_line.SeenLine.params.Goals as goal

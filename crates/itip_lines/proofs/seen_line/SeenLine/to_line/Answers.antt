@@ -1,4 +1,4 @@
-use Rattle.std.proofs.Common.{◌∙◌, refl}
+use Rattle.std.proofs.Common.{◌∙◌}
 use Rattle.itip_lines.proofs.ParamTexts.{is_params_text}
 use Rattle.itip_lines.proofs.SameLine.{same_line, lawful_copy}
 use Rattle.itip_lines.proofs.seen_line.SeenLine.to_line.Goals as goal

@@ -1,4 +1,4 @@
-use Rattle.std.proofs.Common.{◌≡◌, ℕ, List, true, false, sym, subst}
+use Rattle.std.proofs.Common.{◌≡◌, true, false, sym, subst}
 use Rattle.itip_lines.specs.Room.{StandsInPlace}
 use Rattle.itip_lines.proofs.text.Text.copy.Goals as goal
 

@@ -1,4 +1,4 @@
-use Rattle.std.proofs.Common.{◌≡◌, ◌∙◌, ℕ, List, sym, subst}
+use Rattle.std.proofs.Common.{◌≡◌, ◌∙◌, sym, subst}
 use Rattle.std.proofs.lemmas.Result.{MatchResult-from_both, IfOk-weaker}
 use Rattle.itip_lines.specs.Room.{StandsInPlace}
 use Rattle.itip_lines.proofs.Rooms.{refused_only}

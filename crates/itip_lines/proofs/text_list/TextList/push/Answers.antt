@@ -1,6 +1,6 @@
 use Rattle.std.proofs.Common.{◌≡◌, ◌++◌, ◌∷◌, [], ℕ, List, subst}
 use Rattle.std.specs.Prelude.{OnOk, OnErr}
-use Rattle.itip_lines.specs.Joining.{texts_in, IsOneLine}
+use Rattle.itip_lines.specs.Joining.{texts_in}
 use Rattle.itip_lines.proofs.Joined.{pushed_joined, pushed_texts, kept_texts}
 use Rattle.itip_lines.proofs.text_list.TextList.push.Goals as goal
 

@@ -12,7 +12,7 @@ use Rattle.itip_state.proofs.Undoing.{replaced_twice, put_at, put_apart}
 use Rattle.itip_state.proofs.held.Held.raise.Goals as goal
 use Rattle.itip_state.proofs.held.Held.raise.Goals.{After-replace, After-replace-2}
 
--- what is held before, then without what is changed, and at last
+-- what is held before, then without what changes, and finally
 abbrev old : After-replace → List (List ℕ × UidState)
 old c = uid_states c.self.inside.map.map uid_state
 

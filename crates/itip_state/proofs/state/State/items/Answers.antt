@@ -1,5 +1,4 @@
-use Rattle.std.proofs.Common.{◌≡◌, List, [], sym, subst}
-use Rattle.itip_items.specs.declared.item.Item.{Item}
+use Rattle.std.proofs.Common.{sym, subst}
 use Rattle.itip_state.specs.Kept.{IsItemsOf}
 use Rattle.itip_state.proofs.Nothing.{none_left, nothing_of_none}
 use Rattle.itip_state.proofs.state.State.items.Goals as goal

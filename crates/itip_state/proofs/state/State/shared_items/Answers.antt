@@ -1,5 +1,4 @@
-use Rattle.std.proofs.Common.{◌≡◌, ◌∙◌, List, [], sym, subst}
-use Rattle.itip_items.specs.declared.item.Item.{Item}
+use Rattle.std.proofs.Common.{◌∙◌}
 use Rattle.itip_state.proofs.Nothing.{not_ok}
 use Rattle.itip_state.proofs.state.State.shared_items.Goals as goal
 

@@ -18,7 +18,7 @@ returns-in_ok-lines-in-Few-clause-answers c =
     let lines = map string_bytes c.in_ok-lines-in-Few.lines.items in
     reports_lines c.args.desk c.args.name c.in-Some.asked.now lines c.in-Some.ensures
     (subst (λ (items : List Item). IsReportOf c.args.name items asked.window lines) c.state.ensures
-    (c.in_ok-lines-in-Few.ensures asked.window few.rows few.are_left
+    (c.in_ok-lines-in-Few.ensures.lines asked.window few.rows few.are_left
     (has_rows_for c.args.name c.state.result.now asked.window c.in_ok-rows.rows
     (subst (λ (items : List Item). AreRowsFor c.args.name items asked.window c.in_ok-rows.rows) (sym c.state.ensures) c.in_ok-rows.ensures)
     c.in-Few.field-0 few)))

@@ -1,0 +1,18 @@
+use Rattle.std.proofs.Common.{◌∙◌, map, sym, ap, subst}
+use Rattle.std.specs.Char.{to_ascii_lowercase}
+use Rattle.std.specs.Str.{IsUtf8}
+use Rattle.itip_lines.proofs.Cases.{changed, lowered}
+use Rattle.itip_lines.proofs.text.Text.make_ascii_lowercase.Goals as goal
+
+pub invariant_of-self : goal.invariant_of-self
+invariant_of-self c =
+    subst IsUtf8
+    (sym (changed to_ascii_lowercase c.self.inside.octets c.make_ascii_lowercase.new.self
+    (c.make_ascii_lowercase.ensures.after ∙ ap (map to_ascii_lowercase) c.as_mut_slice.ensures.value)))
+    (lowered c.self.inside.octets.items c.self.invariant)
+
+pub returns : goal.returns
+returns c =
+    changed to_ascii_lowercase c.self.inside.octets c.make_ascii_lowercase.new.self
+    (c.make_ascii_lowercase.ensures.after ∙ ap (map to_ascii_lowercase) c.as_mut_slice.ensures.value)
+    ∙ ap (map to_ascii_lowercase) c.self.view_is
