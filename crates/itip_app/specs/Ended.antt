@@ -59,8 +59,8 @@ pub record EndsOffice (scripted : Scripted) (input old new : Option (List ℕ)) 
 
 -- ---- a message that is shown
 
--- What showing a message comes to: its items were written, or its refusal; or after a fault a prefix of that, and nothing if the
--- message could not be read.
+-- What showing a message comes to: its items were written, or its refusal; or after a fault a prefix of that, and nothing if a read
+-- failed.
 pub record ShowingComesTo (input old new : Option (List ℕ)) (done : Result Bool StreamFault) : Type 0 where
   pub output : IfOk done (λ refused. IfSome input (λ text. WritesOutput (IsShown text) old new refused))
   pub front : OnErr done (IfSome input (λ text. (shown : List ℕ) (refused : Bool) → IsShown text shown refused →

@@ -111,7 +111,7 @@ pub record WritesErrand (asked : Asked) (todos : List Todo) (at : Stamp) (inputs
     pub sends : Sends errand at inputs old new what
     pub outcome_is : IsOutcomeOfSent what outcome
 
--- The message of an errand is written, or nothing if the draft can't be read as a request.
+-- The message of an errand is written, or nothing if it can't be made, or if the draft can't be read as a request.
 abbrev pub WritesMessage : Option MessageRefusal → Asked → List Todo → Stamp → List (List ℕ) → Option (List ℕ) → Option (List ℕ) →
     Outcome → Type 0
 WritesMessage None asked todos at inputs old new outcome = WritesErrand asked todos at inputs old new outcome

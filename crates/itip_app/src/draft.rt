@@ -9,7 +9,7 @@ use std::rt::Files;
 /// What was read of a draft.
 #[derive(Drop)]
 pub(crate) struct Draft {
-    /// Its to-dos; none if no draft is named.
+    /// Its to-dos; none if no draft is named, or if it is refused.
     pub(crate) todos: Vec<Todo>,
     /// Why it can't be read as a request, if it can't.
     pub(crate) refusal: Option<MessageRefusal>,

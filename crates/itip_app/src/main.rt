@@ -1,6 +1,6 @@
 //! The program `itipdesk`: desks for to-dos under iTIP. It runs a script from standard input, one command after another or as jobs on
 //! threads; serves a stream of commands, each answered before the next; reads messages from files, folders and standard input, and
-//! writes what counts of them, what others lack, their task list, a report, an explanation, or a message to send; or shows a message
+//! writes what is kept of them, what others lack, their task list, a report, an explanation, or a message to send; or shows a message
 //! as its items.
 //!
 //! Its exit status is 0, or 1 if something was refused, 2 for bad words or a bad window, 3 for a fault, and 4 if what was asked for

@@ -22,8 +22,8 @@ use std::{fs, io};
 // The status if the file of a desk is refused.
 const NOT_READ: u8 = 4;
 
-/// Files by their names. What they hold is a relation that a function over all folders knows nothing about. So one that ensures it
-/// has read the file.
+/// Files by their names. What they hold is a relation that a function over any folder knows nothing about, so only a function that has
+/// read a file can ensure what it holds.
 pub(crate) trait Folder {
     /// What the file of a name may hold, or None if it can't be read.
     ghost holds: { Self → List ℕ → Option (List ℕ) → Type 0 };

@@ -55,7 +55,8 @@ pub record IsDelta (bytes : List ℕ) : Type 0 where
   pub ascend : AscendOctets batch
   pub octets : bytes ≡ delta_octets batch
 
--- What is read from the rest of some bytes follows the items that were read before it, and where the rest is refused, so are all.
+-- What is read from the rest of some bytes follows the items that were read before it. If the rest is refused, so are the bytes, for the
+-- same cause.
 pub record Continues (bytes rest : List ℕ) (items : List Item) : Type 0 where
   pub read : (given : List (List Item)) → AreMessages (messages_of rest) given
       → (all : List (List Item)) × AreMessages (messages_of bytes) all × (all_of all ≡ items ++ all_of given)

@@ -13,7 +13,7 @@ use Rattle.itip_desk.specs.Heard.{heard, Ticks, MovedAfter}
 use Rattle.itip_desk.specs.Octets.{AscendOctets}
 
 pub record Shown : Type 0 where
-  -- the kept items, each once
+  -- the kept items
   pub kept : List Item
   pub tick : ℕ
   -- the UIDs that moved, each with the tick that it carries

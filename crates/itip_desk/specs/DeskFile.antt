@@ -48,7 +48,7 @@ version_text head moved = version_parameters head moved ++ codes ":2.0\r\n"
 abbrev pub message_text : Option FileHead → ℕ → List ℕ → List ℕ
 message_text head moved bytes = product_text head ++ version_text head moved ++ drop 57 bytes
 
--- the tick at which the UID of an item last moved
+-- the tick at which the UID of an item last moved, or 0 if it carries none
 abbrev pub moved_at : List (List ℕ × ℕ) → Item → ℕ
 moved_at changed item = unwrap_or (tick_at changed (uid_of item.key)) 0
 

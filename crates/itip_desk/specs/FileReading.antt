@@ -42,7 +42,7 @@ abbrev pub TellsMove : List ℕ → Option ℕ → Type 0
 TellsMove text found = (head : Option FileHead) (at : ℕ) (bytes : List ℕ) → at < 2 ^ 64 → IfSome head IsHead →
     text ≡ message_text head at bytes → found ≡ Some at
 
--- a message of the file of a desk at this tick: it tells a move, and items
+-- a text read as a message of the file of a desk at this tick: the move and the items that it tells
 pub record ReadsPart (tick : ℕ) (text : List ℕ) (moved : ℕ) (items : List Item) : Type 0 where
   pub reads : ReadsMessage text items
   pub told : TellsMove text (Some moved)
@@ -58,7 +58,7 @@ IsNoPart tick text = (head : Option FileHead) (at : ℕ) (item : Item) → at < 
 abbrev pub moves_at : ℕ → List Item → List (List ℕ × ℕ)
 moves_at moved items = map (λ (item : Item). (uid_of item.key, moved)) items
 
--- Each of these messages is one of the file of a desk at this tick, and these are the items and the moves of all of them.
+-- Each of these texts is read as a message of the file of a desk at this tick, and these are the items and the moves of all of them.
 abbrev pub ReadsParts : ℕ → List (List ℕ) → List Item → List (List ℕ × ℕ) → Type 0
 ReadsParts tick [] items moves = (items ≡ []) × (moves ≡ [])
 ReadsParts tick (text ∷ texts) items moves =

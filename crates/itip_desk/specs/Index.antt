@@ -26,7 +26,7 @@ pub record IsEmptyIndex (index : Index) : Type 0 where
 abbrev pub IsIndexOf : List Item → Index → Type 0
 IsIndexOf kept index = (entry : IndexEntry) → IsTrue (has index entry) ↔ IsNoted kept entry
 
--- the news that can govern rows: those of a to-do as a whole, of an instance and of a range
+-- those of the news that are of a to-do as a whole, of an instance or of a range, live or cancelled
 abbrev pub AreOfRows : List Item → List Item → Type 0
 AreOfRows found news = (item : Item) → Contains found item ↔ (Contains news item × (is_of_rows item.key ≡ true))
 
@@ -40,7 +40,7 @@ pub record HasGrown (items : List Item) (old new : Index) : Type 0 where
   pub keeps : (entry : IndexEntry) → has old entry ≡ true → has new entry ≡ true
   pub among : (entry : IndexEntry) → has new entry ≡ true → (has old entry ≡ true) ⊎ IsNoted items entry
 
--- Those of these items that are not in the state have lost their entries; no other entry is gone, and none is new.
+-- Those of these items that are not in the state have lost their entries; no entry of the state is gone, and none is new.
 pub record HasSettled (state items : List Item) (old new : Index) : Type 0 where
   pub none_new : (entry : IndexEntry) → has new entry ≡ true → has old entry ≡ true
   pub stays : (entry : IndexEntry) → has old entry ≡ true → ((item : Item) → Contains (entries_of item) entry → Contains state item) →

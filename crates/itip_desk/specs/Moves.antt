@@ -11,7 +11,7 @@ use Rattle.std.specs.declared.cmp.Ordering.{Ordering}
 use Rattle.itip_join.specs.KeyByKey.{value_at}
 
 pub record Moved : Type 0 where
-  -- what each UID carries, by UID; 0 is a place that carries nothing yet
+  -- what each UID carries, by UID; 0 if it only has a place, and carries nothing yet
   pub carried : List (List ℕ × ℕ)
   -- the same by tick; there may be others too
   pub order : List (ℕ × List ℕ)
@@ -36,7 +36,7 @@ move_cmp = λ a b. ordering_then (nat_cmp a.0 b.0) (slice_cmp nat_cmp a.1 b.1)
 abbrev pub has_move : List (ℕ × List ℕ) → ℕ × List ℕ → Bool
 has_move order move = list_any (is_at (move_cmp move)) order
 
--- each UID that carries a tick is in order under it
+-- each UID that carries a tick is in `order` under it
 abbrev pub AreInOrder : List (List ℕ × ℕ) → List (ℕ × List ℕ) → Type 0
 AreInOrder carried order = (uid : List ℕ) (tick : ℕ) → tick_at carried uid ≡ Some tick → 0 < tick → has_move order (tick, uid) ≡ true
 
@@ -57,7 +57,7 @@ abbrev pub HavePlaces : List (List ℕ) → List (List ℕ × ℕ) → List (Lis
 HavePlaces uids was now = (uid : List ℕ) → (tick_at now uid ≡ tick_at was uid) ⊎
     ((is_listed uids uid ≡ true) × (tick_at was uid ≡ None) × (tick_at now uid ≡ Some 0))
 
--- each of these UIDs has a place, and is in order under the tick that it is to carry
+-- each of these UIDs has a place, and is in `order` under the tick that it is to carry
 pub record AreReady (uids : List (List ℕ)) (tick : ℕ) (moved : Moved) : Type 0 where
   pub placed : (uid : List ℕ) → is_listed uids uid ≡ true → is_some (tick_at moved.carried uid) ≡ true
   pub in_order : (uid : List ℕ) → is_listed uids uid ≡ true → has_move moved.order (tick, uid) ≡ true

@@ -29,7 +29,7 @@ pub record WritesListed (word : List ℕ) (desk : ℕ) (asked : RowsByUid) (old 
   pub is_listed : IsHeadedList word desk asked most text
   pub moved : MovesOut old new (kept ++ text) rest
 
--- A prefix of what is kept was written, or of that and the rows appended to it.
+-- A prefix of what is kept was written, or of that and the text of the rows after it, with its head.
 abbrev pub WritesListedFront : List ℕ → ℕ → RowsByUid → Option (List ℕ) → Option (List ℕ) → List ℕ → Type 0
 WritesListedFront word desk asked old new kept =
     AppendsFront old new kept ⊎ ((text : List ℕ) × HasHeadedText word desk asked text × AppendsFront old new (kept ++ text))

@@ -197,8 +197,8 @@ impl Desk {
         Ok(Changed { tick, uids })
     }
 
-    /// The kept items of the UIDs that carry a tick above this one: what an older state of this desk, at this tick, lacks. Moves at
-    /// earlier ticks are not looked at.
+    /// The kept items of the UIDs that carry a tick above this one: an older state of this desk, at this tick, that hears them becomes
+    /// what the desk keeps now. Moves up to this tick are not looked at.
     ///
     /// Fails if an allocation fails. At the tick of this desk and above, nothing has moved since, and it never fails.
     pub fn delta_since(&self, tick: u64) -> Result<Batch, AllocError>
@@ -212,7 +212,7 @@ impl Desk {
         Batch::of_shared(self.kept.state().shared_of(&uids)?)
     }
 
-    /// The UIDs that are looked at for the list of a window, perhaps more than once. A UID that isn't among them has no row there.
+    /// The UIDs that the index finds for a window, perhaps more than once. A UID that isn't among them has no row there.
     ///
     /// Fails if an allocation fails.
     pub fn uids_in(&self, window: Window) -> Result<Vec<&Uid>, AllocError>

@@ -33,8 +33,8 @@ struct FileParts {
 /// text is refused.
 ///
 /// Fails with [`FileRefusal::OtherForm`] (70) if they name another form, and with [`FileRefusal::Broken`] (71) if they are the file
-/// of no desk, with the number, from 1, of the first message that can't be read as one of such a file or tells no move, if there is
-/// one. Fails with [`FileError::NoMemory`] if an allocation fails.
+/// of no desk, with the number, from 1, of the first message that can't be read as one of such a file or tells no move from tick 1 to
+/// that of the desk, if there is one. Fails with [`FileError::NoMemory`] if an allocation fails.
 pub fn read_desk(alloc: Global, octets: &[u8]) -> Result<Desk, FileError>
     ensures found { IfOk result (TellsDesk octets.now) }
     ensures fault { IfErr result (λ e. IfFileRefused e (RefusesFile octets.now)) }

@@ -113,7 +113,7 @@ impl IndexedState {
         self.state.hear(news)
     }
 
-    /// Hears the news, among which `found` are the items that can govern rows.
+    /// Hears the news, among which `found` are the items of a to-do as a whole, of an instance or of a range.
     ///
     /// The index grows before anything is heard, and then loses the entries of what is not kept. Memory is in proportion to these
     /// items and to those that can give way to them.
@@ -131,7 +131,7 @@ impl IndexedState {
     }
 }
 
-/// The items among these that can govern rows: those of to-dos as a whole, of instances and of ranges.
+/// The items among these that are of a to-do as a whole, of an instance or of a range, live or cancelled.
 fn of_rows<'a>(alloc: Global, news: &[&'a SharedItem]) -> Result<Vec<&'a SharedItem>, AllocError>
     ensures { IfOk result (λ found. AreOfRows (map (λ item. item.now) found.items) (map (λ item. item.now) news.now)) }
 {

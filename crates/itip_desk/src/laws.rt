@@ -1,4 +1,4 @@
-//! The laws of convergence and of deltas. Each function is empty: its contract is the law.
+//! The laws of convergence, of deltas and of a desk's file. Each function is empty: its contract is the law.
 ghost use Rattle.std.specs.Prelude.{◌≡◌, ◌⊎◌, List, ◌++◌, ℕ};
 ghost use Rattle.itip_items.specs.declared.item.Item.{Item};
 ghost use Rattle.itip_state.specs.Kept.{AreKept, SameItems};

@@ -11,8 +11,8 @@ use std::fmt;
 pub enum FileRefusal {
     /// The file names a form other than the one that is read (70).
     OtherForm,
-    /// It is the file of no desk (71): the message with this number, from 1, can be in none, or, with `None`, the messages don't fit
-    /// together.
+    /// It is the file of no desk (71): the message with this number, from 1, can't be read as one of such a file; or, with `None`, one
+    /// isn't written as it would be in such a file, or the messages don't fit together.
     Broken { message: Option<u64> },
     /// The file could not be written; what was there before still is (72).
     Unwritten { desk: u64 },

@@ -27,8 +27,8 @@ pub(crate) struct Asking<'a> {
     pub(crate) attendee: Text,
 }
 
-/// The attendees that are asked by those items of a UID that rows can come from, and by the to-do as a whole: those of its series item
-/// and of its range items. They are sorted, so that binary search finds one.
+/// The attendees that are asked by those items of a UID that rows can come from, and by the to-do as a whole: those of the series item
+/// and of the range items among these. They are sorted, so that binary search finds one.
 #[derive(Drop)]
 pub(crate) struct Asked<'a> {
     pub(crate) askings: Vec<Asking<'a>>,

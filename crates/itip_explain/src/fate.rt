@@ -21,10 +21,10 @@ pub enum Fate {
     CancelledWithToDoBy(Place),
     /// It is kept, and no row is in question or, for a refresh request, nothing governs what it names.
     AboutNothing,
-    /// It is for an earlier revision than that of the item that governs the row in question; the place is that of this item.
+    /// It is for an earlier revision than that of the item that governs the row in question; the place is that of the governing item.
     ForOlderThan(Place),
-    /// It is from no attendee of that item nor, if it is for the to-do as a whole, of a live range item that stands; the place is that of
-    /// the item that governs.
+    /// It is from no attendee of the item that governs the row in question nor, if it is for the to-do as a whole, of a live range item
+    /// that stands; the place is that of the governing item.
     FromNoAttendeeOf(Place),
     /// It is an answer or a removal, and counts.
     Counts,

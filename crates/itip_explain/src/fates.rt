@@ -100,7 +100,7 @@ impl<'v, 'a, 't> Fates<'v, 'a, 't> {
         }
     }
 
-    /// The first place that tells an item that is the best of its key.
+    /// The place of the first message to tell an item that is the best of its key.
     fn place_of(&self, item: &Item) -> Place
         requires sound { IsSound self.now }
         requires best { IsBest (heard_by self.now) item.now.key item.now }

@@ -14,7 +14,8 @@ use itip_streams::SourceName;
 use itip_todo::Uid;
 use std::alloc::Global;
 
-/// A line, with its end, for each item that was told of a UID, in the order told: `WHERE: KIND ID [ADDRESS] seq S stamp T FATE`.
+/// A line, with its end, for each told item, in the order told: `WHERE: KIND ID [ADDRESS] seq S stamp T FATE`. All of `told` must be of
+/// this UID.
 ///
 /// WHERE is the place of the message, as [`SourceName::place_of`] writes it; a source without a name is named like standard input.
 /// ID is `-`, or the moment of the instance, with `+` after it if the item is of an instance and all after it. ADDRESS is that of the

@@ -25,7 +25,7 @@ pub record IsCompaction (inputs : List (List ℕ)) (octets : List ℕ) (refused 
   pub kept : AreKeptOctets heard octets
   pub refused_is : refused ≡ is_some_refused refusals
 
--- They have the same compaction.
+-- Their compactions have the same bytes.
 abbrev pub HaveSameCompaction : List (List ℕ) → List (List ℕ) → Type 0
 HaveSameCompaction inputs others = (octets again : List ℕ) (refused other : Bool) → IsCompaction inputs octets refused →
     IsCompaction others again other → again ≡ octets

@@ -12,7 +12,7 @@ use Rattle.itip_inbox.specs.Json.{Member, attendee_object, object_behind, object
 abbrev pub member_tokens : Member → List Token
 member_tokens m = key m.0 ∷ json_tokens m.1
 
--- the same of some members
+-- the tokens of some members, each after its name
 abbrev pub named_tokens : List Member → List Token
 named_tokens members = flat_map member_tokens members
 

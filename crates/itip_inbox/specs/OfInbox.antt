@@ -21,7 +21,7 @@ pub record IsOfInbox (Is : List Item → List ℕ → Bool → Type 0) (inputs :
 abbrev pub WritesFront : (List ℕ → Bool → Type 0) → Option (List ℕ) → Option (List ℕ) → Type 0
 WritesFront Is old new = Appends old new [] ⊎ ((output : List ℕ) × (said : Bool) × Is output said × AppendsFront old new output)
 
--- A text was written of which this holds given any set of which this is what is kept. It may be a refusal.
+-- A text was written of which this holds, whatever set of items has these kept items. It may be a refusal.
 pub record WritesKept (Is : List Item → List ℕ → Bool → Type 0) (kept : List Item) (old new : Option (List ℕ)) (refusal : Bool) : Type 0
   where
     pub text : List ℕ

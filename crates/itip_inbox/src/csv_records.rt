@@ -1,4 +1,4 @@
-//! Rows as records of comma-separated fields (RFC 4180).
+//! Rows as records of comma-separated fields (RFC 4180, with LF as the line break).
 ghost use Rattle.std.specs.Prelude.{◌≡◌, ◌++◌, ◌∷◌, [], List, Some, OnOk};
 ghost use Rattle.std.specs.Fmt.{decimal};
 ghost use Rattle.std.specs.List.{flat_map, list_any};
@@ -254,7 +254,8 @@ fn put_octet(out: &mut Vec<u8>, octet: u8) -> Result<(), AllocError>
     Ok(())
 }
 
-/// A reader of comma-separated fields (that of `csv`) reads what is written of rows as their records, and as nothing else.
+/// A reader of comma-separated fields (that of `csv`) reads what is written of rows as the names of the fields and then their records,
+/// and as nothing else.
 pub fn records_are_read()
     ensures { (rows : List Row) → records default_config (csv_text rows) ≡ records_of_rows rows }
 {}

@@ -255,8 +255,8 @@ fn write_number(writer: &mut Writer, name: &str, number: Option<u8>) -> Result<(
     }
 }
 
-/// The object of a row is read as its members, and the text of a list, an array and a line break, as the array of these objects
-/// (RFC 8259).
+/// The object of a row is read as its members, and the text of a list, without its last line break, as the array of these objects
+/// (RFC 8259). The numbers of the rows have to be below 2^64, as those of their types are.
 pub fn objects_are_read()
     ensures object { (row : Row) → HasSmallNumbers row → document (object_text row) ≡ Some (row_object row) }
     ensures array { (rows : List Row) → AllByRecursion HasSmallNumbers rows → document (array_text rows) ≡ Some (rows_array rows) }

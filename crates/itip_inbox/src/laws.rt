@@ -30,7 +30,7 @@ pub fn one_compaction()
 
 /// Only the items that inputs tell matter. Inputs that tell the same items, in any order and number and cut into any messages, have
 /// the same compaction; in each window the same reports and the same task list, whichever rows are wanted and in each form; and the
-/// same news beside others that tell the same items.
+/// same news beside others that tell the same items. Whether a message was refused may differ.
 pub fn only_items_matter()
     ensures compaction { (inputs others : List (List ℕ)) (octets again : List ℕ) (refused other : Bool) → TellSameItems inputs others →
         IsCompaction inputs octets refused → IsCompaction others again other → again ≡ octets }
@@ -99,9 +99,10 @@ pub fn compaction_with_news()
         IsCompaction (than ++ inputs) octets refused → IsCompaction (than ++ others) again other → again ≢ octets }
 {}
 
-/// Parts of inputs that together have the compaction of the whole, and no two of which tell of one UID. The text of a list is that of
-/// its blocks, one for each UID, one after another. The blocks of the parts' lists, sorted by UID, are those of the list of the
-/// whole; and the items of the parts' compactions, sorted by bytes, are the compaction of the whole (our own rules).
+/// The text of a list is that of its blocks, one for each UID, one after another, or `refused 31` if they have too many rows. If parts
+/// together have the compaction of the whole, and no two of them tell of one UID, the blocks of the parts' lists, sorted by UID, are
+/// those of the list of the whole; and the items of the parts' compactions, sorted by bytes, are the compaction of the whole (our own
+/// rules).
 pub fn outputs_of_parts()
     ensures text { (inputs : List (List ℕ)) (wanted : Wanted) (window : Window) (blocks : List Block) (text : List ℕ) (refused : Bool)
         → IsOfHeard (AreBlocksWhere (Wants wanted) window) inputs blocks

@@ -3,13 +3,13 @@
 //! Each source is cut into messages by itself, by `itip_message`: `part_messages` splits the bytes that were read among the threads,
 //! and each thread cuts its part with `next_message` and reads each message with `read_message`. Where a message is too long to be
 //! held, `cut_message` finds its end. A refused message is not heard; the others are. While sources are read, what is kept is split
-//! into shards by UID, and each shard hears the items of its UIDs on a thread of its own; then one state has all. What is kept of
-//! everything is a batch, sorted by canonical bytes and each item once, and is written as `itip_desk` writes a delta. There a refused
-//! message refuses all bytes (`read_delta`); here it does not.
+//! into shards by UID, and each shard hears the items of its UIDs on a thread of its own; then one state has all, except in `compact`,
+//! which writes from the shards. What is kept of everything is a batch, sorted by canonical bytes and each item once, and is written as
+//! `itip_desk` writes a delta. There a refused message refuses all bytes (`read_delta`); here it does not.
 //!
-//! Only the set of items that are told matters, and what is kept of what was kept is what is kept of all. So parts of the sources
-//! may be compacted apart, on any machine and in any order, and then their results; and what some sources lack of others is a few
-//! items (`news`). To explain one to-do, the items that messages tell of it are followed while all messages are heard.
+//! Only the set of items that are told matters, and compacting compactions equals compacting everything. So parts of the sources may
+//! be compacted apart, on any machine and in any order, and then their results; and `news` writes only the items that some sources
+//! lack of others. To explain one to-do, the items that messages tell of it are followed while all messages are heard.
 #![tactic(auto)]
 
 mod compaction;

@@ -43,7 +43,7 @@ pub(crate) struct OpenInbox {
 }
 
 impl OpenInbox {
-    /// An inbox of no messages, before the first input, that hears on at most `threads` threads, or on one.
+    /// An inbox of no messages, before the first input, that hears on at most `threads` threads, or on one if that is 0.
     pub(crate) fn empty(alloc: Global, threads: usize) -> Result<OpenInbox, AllocError>
         ensures none { IfOk result (λ inbox. (about : Option (List ℕ)) → HasGot about [] inbox) }
         ensures source { IfOk result (λ inbox. inbox.source ≡ 0) }

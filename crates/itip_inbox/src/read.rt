@@ -54,9 +54,9 @@ impl Progress {
 }
 
 /// Reads sources one after another, each to its end, and hears their messages. These are cut, read and heard on at most `threads`
-/// threads, a share of a source at a time: about a mebibyte for each thread, or two where a message is as long as one may be. A share
-/// may also be of several sources of at most a mebibyte each. Of a longer message at most 20 bytes are held between shares. If `about`
-/// names a UID, the items that the messages tell of it are followed.
+/// threads, a share of a source at a time: about a mebibyte for each thread, or two on one thread if a message is as long as one may
+/// be. A share may also be of several sources of at most a mebibyte each. Of a message that is too long, at most 20 bytes are held
+/// between shares. If `about` names a UID, the items that the messages tell of it are followed.
 ///
 /// Each source is cut into messages by itself, as a delta is. A refused message is noted and not heard. A source is dropped at its
 /// end. The first failed read is returned as [`StreamFault::Read`], and so are too many messages; a failed allocation is returned as

@@ -1,4 +1,5 @@
-//! What is kept, split into shards by UID. What the rules say of an item is about its UID, so each shard hears on a thread of its own.
+//! What is kept, split into shards by UID. What is kept of a UID depends on the items of that UID alone, so each shard hears on a thread
+//! of its own.
 ghost use Rattle.std.specs.Prelude.{◌≡◌, ◌↔◌, ◌<◌, ◌++◌, [], length, map, IfOk, OnOk, IfErr, IsTrue};
 ghost use Rattle.std.specs.List.{list_any};
 ghost use Rattle.std.specs.Thread.{IsSync};

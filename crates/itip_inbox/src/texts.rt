@@ -172,8 +172,8 @@ impl Heard {
         Ok(())
     }
 
-    /// Numbers the messages anew, after `count` others of their source. On an error some have their new numbers, and what they tell of
-    /// the followed UID may be gone.
+    /// Numbers the messages anew, after `count` others of their source. On an error some may have their new numbers, and what they tell
+    /// of the followed UID may be gone.
     pub(crate) fn move_behind(&mut self, alloc: Global, count: u64) -> Result<(), StreamFault>
         ensures tells { OnOk result ((about : Option (List ℕ)) (kept : List Item) (source first : ℕ) (texts : List (List ℕ)) →
             Tells about kept (placed_from source first texts) self.old →

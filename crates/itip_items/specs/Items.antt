@@ -126,7 +126,7 @@ abbrev pub raised : Parts → ℕ → ℕ
 raised parts above = max parts.seq (max (unwrap_or parts.base 0) above)
 
 -- the effective sequence of an instance or range item (our own rule): the greatest of its own SEQUENCE, its X-DESK-BASE
--- and those of the series components of its UID in the message
+-- and each SEQUENCE of the series components of its UID in the message
 abbrev pub effective_sequence : Method → List Parts → Parts → ℕ
 effective_sequence m all parts = raised parts (series_sequence m parts.uid all)
 
@@ -244,7 +244,7 @@ pub record Sends (k : Kind) (parts : Parts) : Type 0 where
   pub kind_is : kind_of (method_of k) parts ≡ k
   pub suits : Suits (method_of k) parts
 
--- A draft is in canonical form: its to-do alone, under the method of its kind, gives this draft and no other.
+-- A draft is in canonical form: its to-do may be sent alone under the method of its kind, and gives this draft and no other.
 pub record IsCanonical (draft : ItemDraft) : Type 0 where
   pub alone : drafts (method_of draft.kind) (draft.parts ∷ []) ≡ draft ∷ []
   pub suits : Suits (method_of draft.kind) draft.parts
@@ -252,7 +252,7 @@ pub record IsCanonical (draft : ItemDraft) : Type 0 where
 abbrev pub draft_of : Key → ℕ → Todo → Kind → ItemDraft
 draft_of key eff todo kind = record { key = key; kind = kind; eff = eff; parts = parts_of todo }
 
--- An item is the one that its to-do alone, in canonical form, gives under the method of its kind.
+-- An item is the one that its to-do alone, in canonical form, gives under the method of its kind, within the limits.
 pub record IsItem (key : Key) (own eff : ℕ) (stamp : Stamp) (bytes : List ℕ) (todo : Todo) (kind : Kind) : Type 0 where
   pub is_canonical : IsCanonical (draft_of key eff todo kind)
   pub within : IsWithinLimits (draft_of key eff todo kind)

@@ -105,8 +105,8 @@ fn item_of(kind: Kind, key: Key, eff: u32, todo: Todo, bytes: Octets) -> Item
     }
 }
 
-/// The canonical bytes of a to-do, or `TooLarge` if they are over the limits. With too many lines nothing is written, and with too
-/// many octets only few above the limit.
+/// The canonical bytes of a to-do, or `TooLarge` if they are over the limits. With too many lines nothing is written, and no line of
+/// a list is written once there are too many octets.
 fn bytes_within(alloc: Global, kind: Kind, todo: &Todo) -> Result<Octets, ItemError>
     ensures bytes { IfOk result (λ bytes. (key : Key) (eff : ℕ) → IsWhole (draft_of key eff todo.now kind) bytes) }
     ensures large { IfErr result (λ e. (key : Key) (eff : ℕ) → IfLarge e (IsOver (draft_of key eff todo.now kind ∷ []))) }
@@ -195,7 +195,7 @@ fn one_if(present: bool) -> usize
     usize::from(present)
 }
 
-/// Returns the canonical octets of an item: a message of this to-do alone.
+/// Returns the canonical octets of an item: a message of its to-do alone.
 pub fn write_item(alloc: Global, item: &Item) -> Result<Vec<u8>, NoMemory>
     ensures { IfOk result (λ octets. octets.items ≡ item.now.bytes) }
 {

@@ -16,7 +16,7 @@ pub enum Key {
     Instance(Uid, Moment),
     /// The instance of a UID at a recurrence id and all after it (RANGE=THISANDFUTURE).
     Range(Uid, Moment),
-    /// The answer of an attendee of a UID, or of its instance at a recurrence id.
+    /// The answer of an attendee of a UID, or of its instance at a recurrence id. A removal of the attendee has the same key.
     Answer(Uid, Option<Moment>, Text),
     /// The request of an attendee of a UID, or of its instance at a recurrence id, for the newest revision.
     Refresh(Uid, Option<Moment>, Text),

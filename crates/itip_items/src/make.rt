@@ -88,7 +88,8 @@ fn make_several(
     Ok(items)
 }
 
-/// Appends the items of one to-do. `above` is the greatest SEQUENCE of the series to-dos of its UID in the message.
+/// Appends the items of one to-do. `above` is the greatest SEQUENCE of the series to-dos of its UID in the message, or 0 if it is the
+/// only to-do.
 fn add_items(
     alloc: Global,
     method: Method,

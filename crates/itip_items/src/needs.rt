@@ -29,7 +29,7 @@ pub fn method_cause(method: Method, todo: &Todo) -> Option<MethodCause>
     }
 }
 
-/// Whether a to-do is about an instance or recurs. RDATE with `/` in its value is among the others.
+/// Whether a to-do has RECURRENCE-ID, RRULE or RDATE. RDATE with `/` in its value is among the others.
 fn recurs(todo: &Todo) -> bool
     ensures { result ≡ recurs (parts_of todo.now) }
 {

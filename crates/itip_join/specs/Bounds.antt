@@ -17,7 +17,7 @@ IsFoldOfJoins {T} le x (y ∷ ys) z = (m : T) × (IsJoinOf le x y m × IsFoldOfJ
 abbrev pub HaveSameMembers : {T : Type 0} → List T → List T → Type 0
 HaveSameMembers {T} xs ys = (x : T) → Contains xs x ↔ Contains ys x
 
--- The same for entries under a guard s, where `below` is their order under a guard: z is above both under s, and below all that is above
+-- The join of entries under a guard s, where `below` is their order under a guard: z is above x and y under s, and below all that is above
 -- both under a guard that s is below.
 pub record IsJoinUnder {S M : Type 0} (le : S → S → Type 0) (below : S → M → M → Type 0) (s : S) (x y z : M) : Type 0 where
   pub above_first : below s x z

@@ -29,8 +29,8 @@ abbrev pub replaced : {V : Type 0} → Option V → V → Option V
 replaced None value = None
 replaced (Some old) value = Some value
 
--- A map that had `mine` has `now`. The added keys are new, and where the pairs were there are values now too; once the changes are undone
--- the map is as it was.
+-- A map that had `mine` has `now`. The added keys are new; at each key of the pairs there was a value, and there is one now; once the
+-- changes are undone the map is as it was.
 pub record TakesBack {K V : Type 0} (cmp : K → K → Ordering) (mine now : K → Option V) (added : List K) (raised : List (K × V)) : Type 0
   where
     pub added_are_new : (q : K) → is_listed cmp q added ≡ true → mine q ≡ None

@@ -79,8 +79,8 @@
 //! that key, or dead under h.
 //!
 //! Two laws of the guard make this an order, and an implementation of [`Guard`] proves them: what is at most a dead item of its key is
-//! dead, and a guard kills all that a guard below it kills. The values are a [`Chain`], so what is not later than a dead value is at most
-//! that value.
+//! dead, and a guard kills all that a guard below it kills. The values are a [`Chain`], so the join of two values is one of the two, and
+//! dies when that one does.
 //!
 //! # What is proved
 //!
@@ -94,8 +94,9 @@
 //! `join` is all or nothing. `Keyed` grows its values in place, adds copies of the entries that it lacks, and notes both, so that it can
 //! undo them if an allocation fails on the way: for this it copies each value before it grows. If the map that is joined in has a single
 //! entry, there is nothing to undo, and the value that grows is not copied. So the cost of a join is in proportion to the map that is
-//! joined in and to the values that grow, apart from the walk down the tree. `Guarded` does the same, and if its guard grows it also goes
-//! over its own entries once, to drop the dead. `Both` copies its first part if that part grows.
+//! joined in and to the values that grow, apart from the walk down the tree. `Guarded` does the same, and if its guard grows it also
+//! copies the guard, and goes over its own entries once, to drop the dead. `Both` copies its first part if that part grows, and each time
+//! a guard over it grows.
 #![tactic(auto)]
 
 pub mod both;

@@ -175,7 +175,7 @@ fn join_entry<'a, K: Exact, V: Join, S: Guard<K, V>>(
     }
 }
 
-/// Joins `theirs` into `mine`, the value at `key`, and notes what that was if it may grow.
+/// Joins `theirs` into `mine`, the value at `key`. Notes the old value before, unless `theirs` is below it.
 fn raise<'a, K: Exact, V: Join>(
     mine: &mut V,
     key: &'a K,

@@ -24,7 +24,7 @@ pub trait UnderGuard<S: Join>: Join {
         ensures joined { OnOk result (IsJoinUnder S.le le_under guard.now self.old other.now self.new) }
         ensures err { OnErr result (self.new ≡ self.old) };
 
-    /// Like `join_under`, if no entry of this value is dead under `guard`: only the entries of `other` are gone through.
+    /// Like `join_under`, if no entry of this value is dead under `guard`: its own entries need not be checked.
     fn join_alive(&mut self, other: &Self, guard: &S) -> Result<(), NoMemory>
         requires { are_alive guard.now self.old ≡ true }
         ensures alive { OnOk result (are_alive guard.now self.new ≡ true) }

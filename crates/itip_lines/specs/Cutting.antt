@@ -2,7 +2,7 @@
 use Rattle.std.specs.Prelude.{◌≡◌, ◌≢◌, ℕ, ◌+◌, Bool, true, false, cond, ◌||◌, ◌==◌, List, [], ◌∷◌, ◌++◌, map}
 use Rattle.std.specs.List.{All, AllByRecursion, filter}
 
--- a line break is LF (10), or CR (13) directly followed by LF
+-- a line break is CR (13) directly followed by LF (10), or LF alone (our own rule)
 pub data Break : Type 0 where
   lf : Break
   crlf : Break

@@ -1,4 +1,4 @@
--- A line cut into pieces, in the words of RFC 5545 3.1.
+-- A line cut into pieces, in the words of RFC 5545 3.1; that each piece is as long as possible is our own rule.
 use Rattle.std.specs.Prelude.{◌≡◌, ℕ, ◌+◌, ◌≤◌, ◌<◌, List, [], ◌∷◌, ◌++◌, length, encode_utf8}
 use Rattle.std.specs.Char.{IsScalar}
 use Rattle.std.specs.Str.{IsUtf8}

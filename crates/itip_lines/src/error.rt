@@ -12,7 +12,7 @@ pub enum LineCause {
     /// The text has more than 1,048,576 octets.
     #[error("the text has more than 1,048,576 octets")]
     TooLong,
-    /// The text has more than 20,000 lines, or a line has more than 65,536 octets.
+    /// The text has more than 20,000 lines, empty ones not counted, or an unfolded line has more than 65,536 octets.
     #[error("the text has more than 20,000 lines, or a line of more than 65,536 octets")]
     TooMany,
     /// A line does not match the grammar (RFC 5545 3.1).

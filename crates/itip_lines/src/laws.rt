@@ -35,7 +35,7 @@ pub fn reading_laws()
 {}
 
 /// Written lines are read back as the same lines if they are within the limits of a text, as a single line always is. A line is
-/// written in pieces of at most 75 octets that split no character, each as long as possible (RFC 5545 3.1): there is only one way.
+/// written in pieces of at most 75 octets that split no character (RFC 5545 3.1), each as long as possible: there is only one way.
 pub fn writing_laws()
     ensures read_again { (lines : List Line)
         → length lines ≤ 20000 → length (all_written lines) ≤ 1048576

@@ -17,8 +17,8 @@ pub struct Param {
 
 /// A content line (RFC 5545 3.1).
 ///
-/// A line is lawful: names are in upper case, no value has a control character except HTAB, no parameter value has a
-/// quote, each parameter has a value, and the line has at most 65,536 octets when written without folds.
+/// A line is lawful: names are not empty and have only upper-case letters, digits and `-`, no value has a control character except HTAB,
+/// no parameter value has a quote, each parameter has a value, and the line has at most 65,536 octets when written without folds.
 #[derive(PartialEq, Debug, Drop)]
 pub struct Line {
     pub name: Text,

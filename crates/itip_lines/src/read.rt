@@ -31,7 +31,8 @@ const USUAL: usize = 20;
 ///
 /// A line break is LF or CRLF; one before SPACE or HTAB is a fold. A line borrows from the text if the text has it exactly as it is
 /// written without folds. A text of more than 1,048,576 octets is refused as `TooLong` without being looked at. Otherwise the first
-/// faulty line decides: `TooMany` if it is beyond the 20,000th or has more than 65,536 octets, else `NotUtf8`, else `BadLine`.
+/// faulty line decides: `TooMany` if it is beyond the 20,000th or has more than 65,536 octets, else `NotUtf8`, else `BadLine`. Fails with
+/// `NoMemory` if an allocation fails.
 pub fn read_lines(alloc: Global, text: &[u8]) -> Result<Vec<NumberedLine<'_>>, LineError>
     ensures found { IfOk result (λ lines. Reads text.now lines.items) }
     ensures refused { IfErr result (λ e. IfRefused e (Refused text.now)) }

@@ -5,7 +5,7 @@
 //! `tools/calls` sends the calls of `examples/calls/itip_live_calls` and compares the answers, and `tools/refusals` those of
 //! `examples/refusals/itip_live_calls`.
 //!
-//! It is proved at each landing, so values are few and short-lived, and each call is a small function.
+//! It is proved, so values are few and short-lived, and each call is a small function.
 #![tactic(auto)]
 
 mod again;

@@ -63,7 +63,7 @@ fn came_of(read: &Result<Vec<Item>, ReadError>) -> Outcome {
     }
 }
 
-/// What comes of reading each text on many threads, a line each. If an allocation fails for some of them, the others have to be read as
+/// What comes of reading each text by [`read_all`], a line each. If an allocation fails for some of them, the others have to be read as
 /// they are alone.
 pub(crate) fn read_all_again<R: AllocGlobal + Eprint + Threads + Sync>(
     rt: &R,

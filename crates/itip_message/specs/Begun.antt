@@ -21,7 +21,7 @@ DifferInFirst least (text ∷ texts) [] = ⊥
 DifferInFirst least (text ∷ texts) (other ∷ others) = (least ≤ length text) × (texts ≡ others)
 
 -- Whatever follows, a few bytes are cut into the same messages as these bytes, except for the first; and the first message of these bytes
--- has all of them.
+-- is at least as long as they are.
 abbrev pub StandsIn : List ℕ → List ℕ → Type 0
 StandsIn octets few = (more : List ℕ) → DifferInFirst (length octets) (messages_of (octets ++ more)) (messages_of (few ++ more))
 

@@ -56,8 +56,8 @@ MisfitsIn (cause.Twice p) line = Unit {0}
 MisfitsIn cause.Range line = Unit {0}
 MisfitsIn cause.AddForm line = Unit {0}
 
--- The line that may go with a cause. For nesting, the beginning and the head there may be one or none: the wrong line, or none if an END,
--- all lines, VERSION or METHOD is missing.
+-- The line that may go with a cause. For nesting, the beginning, VERSION and METHOD there may be one or none: the wrong line, or none if
+-- an END, all lines, VERSION or METHOD is missing.
 abbrev pub FaultIn : MessageCause → Option ℕ → Type 0
 FaultIn (causes.Lines c) line = (line ≡ None) ↔ (c ≡ line_cause.TooLong)
 FaultIn causes.Nesting line = Unit {0}

@@ -96,7 +96,7 @@ todos (TodoBegins number ∷ placed) = todos_from (begun number) placed
 todos (CalendarLine line ∷ placed) = todos placed
 todos (TodoLine line ∷ placed) = todos placed
 
--- the same, where there may be no open VTODO
+-- the open VTODO, if there is one, with its properties, and each VTODO that begins after it
 abbrev pub todos_within : Option Component → List Placed → List Component
 todos_within None placed = todos placed
 todos_within (Some first) placed = todos_from first placed

@@ -23,7 +23,7 @@ pub record SaysFirst (line : List ℕ) (b : ℕ) (after : List ℕ) : Type 0 whe
   pub said : said line ≡ b ∷ said after
   pub shorter : length after < length line
 
--- Lines of which none ends a calendar were passed, and the rest is left.
+-- Lines of which none ends a calendar were passed, and the rest is left. The flag says whether all of them are empty.
 pub record Passes (bytes rest : List ℕ) (blank : Bool) : Type 0 where
   pub passed : List (List ℕ)
   pub whole : bytes ≡ concat passed ++ rest

@@ -28,9 +28,9 @@ use std::marker::Model;
 /// Each line is read as it is added, as a content line of a message (RFC 5545 3.1): anything else is refused, and so is a line that
 /// begins or ends a component. A call that fails leaves the builder unchanged. [`todo`](TodoBuilder::todo) and
 /// [`item`](TodoBuilder::item) read the lines together as a VTODO of a REQUEST, and refuse what would be refused there; the limits of a
-/// message as a whole don't apply. A refusal has the number of the line, 1 for UID and 2 for DTSTAMP. A UID, address or rule with a line
-/// break is refused (2), so that nothing is folded into another line, and so is a zone with an octet that a parameter value can't have
-/// (2). Numbers in parentheses are those of [`MessageRefusal::number`].
+/// message as a whole don't apply. A refusal has the number of the line, 1 for UID and 2 for DTSTAMP; that of an item that is too large
+/// has none. A UID, address or rule with a line break is refused (2), so that nothing is folded into another line, and so is a zone with
+/// an octet that a parameter value can't have (2). Numbers in parentheses are those of [`MessageRefusal::number`].
 #[derive(Debug, Drop)]
 pub struct TodoBuilder {
     lines: Vec<NumberedLine<'static>>,
@@ -150,8 +150,9 @@ impl TodoBuilder {
         self.put_value("RRULE:", rule)
     }
 
-    /// Adds SUMMARY with a text, whose backslashes, semicolons, commas and line feeds are escaped as in RFC 5545 3.3.11. A carriage
-    /// return is refused (2), and so is every other control character of one byte (C0 or DEL) except a tab.
+    /// Adds SUMMARY with a text, whose backslashes, semicolons, commas and line feeds are escaped as in RFC 5545 3.3.11. Every other
+    /// control character of one byte (C0 or DEL) except a tab is refused (2), such as a carriage return, and so is a text that is too
+    /// long (1, 14).
     pub fn summary(&mut self, words: &str) -> Result<(), ReadError>
         ensures added { OnOk result (Adds (codes "SUMMARY:" ++ text_value words.now) self.old self.new) }
         ensures refused { IfErr result (λ e. IfRefused e (RefusesText (codes "SUMMARY:" ++ text_value words.now) (next_number self.old))) }

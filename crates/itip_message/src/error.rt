@@ -110,7 +110,8 @@ pub struct MessageRefusal {
     pub cause: MessageCause,
     /// The number of the to-do, from 1, if the cause is one of a to-do.
     pub todo: Option<usize>,
-    /// The number of the line in the text, from 1, counting folded and empty lines; of a folded line, that of its beginning.
+    /// The number of the line in the text, from 1, counting folded and empty lines; of a folded line, that of its beginning. `None` if no
+    /// single line is at fault: something is missing, or the text or a canonical form is too large.
     pub line: Option<usize>,
 }
 

@@ -22,7 +22,7 @@ const TODO_LIMIT: usize = 1000;
 /// The method of a message with these properties in its VCALENDAR and these to-dos.
 ///
 /// VERSION is checked first, then METHOD, then the number of to-dos. A wrong VERSION or METHOD is refused at the second of its lines, or
-/// at the only one.
+/// at the only one; a missing one has no line.
 pub(crate) fn read_head(
     alloc: Global,
     calendar: &[NumberedLine<'_>],

@@ -21,7 +21,7 @@ IsInYears seconds = IsBetween (neg_ℤ (pos 62_167_219_200)) (pos 253_402_300_79
 abbrev pub clock_seconds : Moment → ℤ
 clock_seconds m = seconds_at (moment_day m) (unwrap_or (moment_second m) 0)
 
--- the sum stays in the years 0000 to 9999, and a date moves only by whole days
+-- the sum stays in the years 0000 to 9999, and a date moves by days alone, with 0 seconds
 pub record CanShift (m : Moment) (days seconds : ℤ) : Type 0 where
   pub in_years : IsInYears (moved_by (clock_seconds m) days seconds)
   pub whole_days : moment_form m ≡ Date → seconds ≡ pos 0

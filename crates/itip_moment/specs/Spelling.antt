@@ -21,7 +21,8 @@ pub record IsDateText (text : List ℕ) (day : ℤ) : Type 0 where
   pub spelt : text ≡ date_digits year month day_of_month
   pub day_is : IsDayOf year month day_of_month day
 
--- HHMMSS of a time of day; second is counted from midnight, and a leap second is read as the second before it (our own rule)
+-- HHMMSS of a time of day; `second` is counted from midnight. Second 60 is read as 59 (RFC 5545 3.3.5, for programs without leap
+-- seconds), in any minute (our own rule).
 pub record IsClockText (text : List ℕ) (second : ℕ) : Type 0 where
   pub hour : ℕ
   pub minute : ℕ

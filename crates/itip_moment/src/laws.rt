@@ -17,7 +17,7 @@ pub fn written_texts_are_read_back()
     ensures moment { (m : Moment) → MomentText (moment_text m) (moment_tzid m) m }
 {}
 
-/// Any result that meets the contract of a reader gives back what was written.
+/// Any result that meets the contract of `read_stamp` or `read_moment` gives back what was written.
 pub fn readers_give_back_what_was_written()
     ensures stamp { (r : Option Stamp) (s : Stamp) → IfSome r (IsStampText (stamp_text s))
         → IfNone r ((t : Stamp) → IsStampText (stamp_text s) t → ⊥) → r ≡ Some s }

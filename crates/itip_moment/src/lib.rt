@@ -1,7 +1,7 @@
 //! Moments of a calendar: the text, the order and the exact shift of dates and date-times.
 //!
 //! A [`Moment`] is a date, or a date-time that is floating, in UTC or in a zone named by TZID
-//! (RFC 5545 3.3.4 and 3.3.5). No zone is ever converted. A [`Stamp`] is a date-time in UTC.
+//! (RFC 5545 3.3.4 and 3.3.5). No zone is ever converted. A [`Stamp`] outside a moment is a date-time in UTC.
 //! Days are numbered from 1970-01-01, and lie in the years 0000 to 9999.
 #![tactic(auto)]
 

@@ -84,7 +84,7 @@ impl Moment {
     }
 }
 
-/// A moment that is in no named zone is cloned without taking memory.
+/// Cloning allocates nothing. It fails only in a named zone, if the name can't be shared once more.
 impl Clone for Moment {
     ghost use Rattle.itip_moment.specs.Room.{IsInNoZone};
 

@@ -33,8 +33,8 @@ pub fn read_stamp(text: &str) -> Option<Stamp>
 /// Reads the moment that a text spells beside a TZID: a date, or a date-time with or without a final `Z`.
 ///
 /// The text decides the form: only a date-time without `Z` is in the zone that TZID names, and it is
-/// floating if TZID is absent or empty. Returns `None` for any other text. Fails only when out of memory
-/// for the zone's name, which only a date-time without `Z` beside a TZID has.
+/// floating if TZID is absent or empty. Returns `None` for any other text. Fails only if there is no memory
+/// for the zone's name: for a date-time without `Z`, beside a TZID that isn't empty.
 pub fn read_moment(
     alloc: Global,
     text: &str,

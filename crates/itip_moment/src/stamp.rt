@@ -5,7 +5,8 @@ ghost use Rattle.itip_moment.specs.Years.{IsDayNumber};
 
 use std::cmp::Ordering;
 
-/// A date-time in UTC (RFC 5545 3.3.5): the day's number from 1970-01-01, and the second of the day.
+/// A date-time (RFC 5545 3.3.5): the day's number from 1970-01-01, and the second of the day. It is in UTC, except in a moment that is
+/// floating or in a named zone.
 ///
 /// Stamps are ordered by the day, then by the second.
 #[derive(Clone, Copy, Debug)]

@@ -15,7 +15,8 @@ use std::sync::ArcStr;
 
 /// The name of a time zone, as TZID gives it (RFC 5545 3.2.19): a text that isn't empty.
 ///
-/// Names are ordered by their bytes. The text is shared: a clone is one more reference, and takes no memory.
+/// Names are ordered by their bytes. The text is shared: a clone is one more reference, takes no memory, and fails only if there can't be
+/// another one.
 #[derive(Drop)]
 pub struct ZoneName {
     text: ArcStr,

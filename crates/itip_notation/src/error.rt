@@ -1,13 +1,13 @@
-//! Why a text is no value, or a value has no text.
+//! Why a value can't be read from a text, or written as one.
 
 use std::alloc::{AllocError, AllocFailed};
 
-/// Why a text is no value, or a value has no text.
+/// Why a value can't be read from a text, or written as one.
 #[derive(Clone, Copy, Debug, Drop)]
 pub enum NotationError {
     /// An allocation failed.
     NoMemory,
-    /// The text is no value of the type.
+    /// The text spells no value of the type.
     NoValue,
 }
 

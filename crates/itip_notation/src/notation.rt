@@ -77,7 +77,7 @@ impl<A: Notation, B: Notation> Notation for Both<A, B> {
     }
 }
 
-/// The guard and the entries, as `5!2=9,3=5`.
+/// The guard and the entries, as `5!2=9,3=5`. Entries that the guard kills are dropped when it is read.
 impl<M: Notation + UnderGuard<Limit>> Notation for Guarded<Limit, M> {
     fn read(alloc: Global, text: &str) -> Result<Guarded<Limit, M>, NotationError> {
         let (guard, entries) = text.split_once('!').ok_or(NotationError::NoValue)?;

@@ -25,7 +25,8 @@ shown_of (Some keeper) = Some (published keeper)
 abbrev pub publication_of : ℕ → List Answer → Option Keeper → Publication
 publication_of desk answers shown = record { desk = desk; answers = answers; batches = shown_of shown }
 
--- The batches are a prefix, perhaps empty, of those that the running desk with this number published, of several in the order of desks.
+-- The batches are a prefix, perhaps empty, of those that the running desk with this number published. The publications are in the order
+-- of desks.
 pub record IsBeginning (publications : List Publication) (desk : ℕ) (seen : List (List Item)) : Type 0 where
   pub publication : Publication
   pub at : slice_get publications desk ≡ Some publication

@@ -22,8 +22,8 @@ Source = ℕ × List (List Item)
 abbrev pub IsOneOf : List Source → ℕ → List (List Item) → Type 0
 IsOneOf sources desk seen = Contains sources (desk, seen)
 
--- The outcome of a look is the list of all heard in these batches, or a refusal since they have too many rows in the window. A list has at
--- most 100,000 rows, so a look is refused exactly if there are more.
+-- The outcome of a look is the list of all heard in these batches, or the refusal that they have too many rows in the window. A list has
+-- at most 100,000 rows, so a look is refused exactly if there are more.
 abbrev pub IsListed : List (List Item) → Window → Outcome → Type 0
 IsListed steps window (Took desk items) = ⊥
 IsListed steps window (Carried from to items) = ⊥

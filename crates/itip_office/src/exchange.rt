@@ -14,7 +14,7 @@ use std::thread;
 use std::thread::Threads;
 
 /// The first `desks` of these desks, once each has taken what all of them keep, each on a thread of its own. A single desk is left as it
-/// is. Fails with 44 if there are fewer.
+/// is. Fails with 44 if there are fewer, with 40 if an allocation fails, and with 21 if a UID would move at the last tick.
 pub(crate) fn exchange<R: Threads + Sync>(
     rt: &R,
     alloc: Global,

@@ -26,9 +26,9 @@ use std::sync::Wait;
 use std::thread::Threads;
 
 /// Runs the jobs of a script on threads, as [`run_office`] does: one for each worker, and one for each keeper. Writes `job N refused C` for
-/// each job that is refused, in the order of the jobs, and then the list of each desk. Returns whether anything written was a refusal. In
-/// addition to the output, `watch` is told what is refused; it is told nothing if the script could not be read or the jobs ended in an
-/// error.
+/// each job that is refused, in the order of the jobs, and then the list of each desk, or `refused 31` if it has too many rows. Returns
+/// whether anything written was a refusal. In addition to the output, `watch` is told what is refused; it is told nothing if the script
+/// could not be read or the jobs ended in an error.
 ///
 /// Jobs are numbered from 0, by their commands. The whole script is read before anything is done. A script of more than
 /// [`MAX_OCTETS`](itip_script::MAX_OCTETS) bytes is refused as a whole (61). On an error, a prefix of the output has been written: nothing

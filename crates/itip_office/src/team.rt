@@ -36,8 +36,8 @@ pub(crate) struct Merged<R: AllocGlobal + Wait + Copy> {
     pub(crate) answers: Vec<(Job, Outcome)>,
 }
 
-/// The promise that a keeper has a desk of the texts that it answers, and published the batches of all that it answers, under a gate of
-/// this type.
+/// The promise that a keeper has a desk of the texts that it answers and, if it has a running desk, published the batches of all that it
+/// answers, under a gate of this type.
 #[derive(Drop)]
 pub(crate) struct OfTexts<G: Gate> {
     gate: PhantomData<G>,

@@ -207,7 +207,7 @@ page_tokens window today rows =
 
 -- ---- what a page doesn't have
 
--- The attributes of a page: none fetches anything, and none is run.
+-- The attributes of a page: none is run, and with the values that a page has none fetches anything.
 abbrev pub attribute_names : List (List ℕ)
 attribute_names =
     codes "lang" ∷ codes "charset" ∷ codes "name" ∷ codes "content" ∷ codes "http-equiv" ∷ codes "scope" ∷ codes "title" ∷ codes "class"

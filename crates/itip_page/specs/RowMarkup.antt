@@ -42,7 +42,7 @@ name_cell row =
 
 -- ---- when
 
--- DTSTART, or the moment of an instance that has none
+-- START, or the moment of an instance or occurrence that has none
 abbrev pub start_markup : Option Moment → RowId → List ℕ
 start_markup (Some start) id = moment_markup start
 start_markup None Single = []

@@ -78,7 +78,7 @@ gives state token = Some (ran state (token ∷ []))
 abbrev pub is_among : List (List ℕ) → List ℕ → Bool
 is_among names name = list_any (λ known. pointwise nat_eq known name) names
 
--- The elements that something is said of. None of them is a script or fetches anything.
+-- The elements that something is said of. None of them is a script, or fetches anything without an attribute or a style that says so.
 abbrev pub element_names : List (List ℕ)
 element_names =
     codes "html" ∷ codes "head" ∷ codes "meta" ∷ codes "title" ∷ codes "style" ∷ codes "body" ∷ codes "h1" ∷ codes "p" ∷ codes "table"

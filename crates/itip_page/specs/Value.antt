@@ -18,7 +18,7 @@ is_break octet = octet == 110 || octet == 78
 abbrev pub is_escaped : ℕ → Bool
 is_escaped octet = octet == 92 || octet == 59 || octet == 44
 
--- octets before the first line
+-- the first line begins with these octets, before what it had
 abbrev pub behind : List ℕ → Lines → Lines
 behind octets lines = record { first = octets ++ lines.first; others = lines.others }
 

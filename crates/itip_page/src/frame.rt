@@ -10,7 +10,7 @@ use itip_moment::Day;
 use itip_view::Window;
 use std::alloc::AllocError;
 
-// The policy allows nothing but what is in the file; a browser that knows it enforces that, whatever the file has.
+// The policy allows nothing but the styles in the file; a browser that knows it enforces that, whatever the file has.
 const OPENING: &str = "<!DOCTYPE html>
 <html lang=\"en\">
 <head>

@@ -22,7 +22,7 @@ const USUAL: usize = 1_024;
 /// A row has six cells:
 ///
 /// - the value of SUMMARY, or of the UID if that is absent or empty; the raw UID is the title of the cell;
-/// - DTSTART, or else the moment that names the instance; `repeats, shown once` if the recurrence isn't expanded;
+/// - START, or else the moment of the instance or occurrence; `repeats, shown once` if the recurrence isn't expanded;
 /// - DUE, and `overdue` if an open row is due before today;
 /// - STATUS;
 /// - PROGRESS as a bar and a number, and PERCENT-COMPLETE;
@@ -133,7 +133,7 @@ fn put_when(out: &mut Vec<u8>, row: &Row) -> Result<(), AllocError>
     put(out, "</td>")
 }
 
-/// Appends the start, or the moment of an instance that has none.
+/// Appends the start, or the moment of an instance or occurrence that has none.
 fn put_start(out: &mut Vec<u8>, start: &Option<Moment>, id: &RowId) -> Result<(), AllocError>
     ensures { OnOk result (out.new.items ≡ out.old.items ++ start_markup start.now id.now) }
 {

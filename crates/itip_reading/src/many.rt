@@ -10,7 +10,8 @@ use rayon::prelude::*;
 use std::alloc::{AllocError, Global};
 use std::thread::Threads;
 
-/// Returns the result of [`read_message`] for each text, in their order, from as many threads as there are processors.
+/// Returns the result of [`read_message`] for each text, in their order. Fewer than 2,048 texts are read on one thread; 2,048 or more on
+/// several, at most two for each processor, each of which reads at least 1,024.
 ///
 /// If an allocation fails while a text is read, its own result is that error, and the others are unaffected. Returns [`AllocError`]
 /// if any other allocation fails.

@@ -38,13 +38,13 @@ pub record IsKept (series : Series) (from to : ℤ) (m : Moment) : Type 0 where
   pub not_before : from ≤ℤ moment_day m
   pub before_end : moment_day m <ℤ to
 
--- the start, if it is a member
+-- the start, if it is a member and is kept
 pub record IsStart (series : Series) (from to : ℤ) (m : Moment) : Type 0 where
   pub is : m ≡ series.start
   pub member : IsRuleMember series.rule series.start m
   pub kept : IsKept series from to m
 
--- a repeat within the end of the rule
+-- a repeat within the end of the rule that is kept
 pub record IsRepeatOf (series : Series) (rule : Rule) (from to : ℤ) (m : Moment) : Type 0 where
   pub repeat : IsRepeat rule series.start m
   pub within : IsWithinEnd rule.end (IsCandidate rule series.start) m

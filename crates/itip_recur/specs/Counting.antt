@@ -21,7 +21,7 @@ abbrev pub Walked : Rule → ℤ → ℤ → ℕ → ℤ → Type 0
 Walked rule start from zero end = (from ≤ℤ end) × IsNoDay rule start from end
 Walked rule start from (suc count) end = (found : ℤ) × IsNextDay rule start from end found × Walked rule start (found +ℤ pos 1) count end
 
--- a day is in the pattern exactly when the day `period` days later is
+-- from 0000-01-01 on, a day is in the pattern exactly when the day `period` days later is
 abbrev pub IsPeriod : Rule → ℤ → Type 0
 IsPeriod rule period = (start day : ℤ) → neg_ℤ (pos 719_528) ≤ℤ day → InPattern rule start day ↔ InPattern rule start (day +ℤ period)
 

@@ -17,12 +17,12 @@ IsByMonths (Weekly days) = ⊥
 IsByMonths (Monthly days) = Unit {0}
 IsByMonths (Yearly days) = Unit {0}
 
--- the day's month is one of those that the year's part names
+-- the day's month is one that a yearly rule names, or that of the start if it names none
 abbrev pub NamesMonth : YearDays → ℤ → ℤ → Type 0
 NamesMonth year.OfStart start day = month_of_year day ≡ month_of_year start
 NamesMonth (year.Listed months days) start day = Any (λ month. month_of_year day ≡ month) months
 
--- the pattern may have days in the day's month, by the number of its month or year and by the month
+-- INTERVAL and the months of a yearly rule allow days of the pattern in the day's month; asked of monthly and yearly rules only
 abbrev pub OwnsMonth : Frequency → ℕ → ℤ → ℤ → Type 0
 OwnsMonth Daily interval start day = ⊥
 OwnsMonth (Weekly days) interval start day = ⊥

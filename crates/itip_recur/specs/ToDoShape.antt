@@ -13,7 +13,7 @@ use Rattle.itip_recur.specs.declared.series.Shape.{Shape}
 use Rattle.itip_recur.specs.declared.series.Shape.TheVariants.{Single, Opaque, Repeats}
 use Rattle.itip_recur.specs.RuleText.{RuleText}
 
--- an RDATE that was kept as a line: one with a period in it
+-- an RDATE that was kept as a line: one with a `/` in its value
 abbrev pub HasPeriod : Todo → Type 0
 HasPeriod todo = has_period todo.others ≡ true
 

@@ -44,7 +44,8 @@ IsUpTo Never m = Unit {0}
 IsUpTo (Count n) m = Unit {0}
 IsUpTo (Until last) m = moment_cmp m last ≢ Greater
 
--- `first` is the first day from `day` on in one of the rule's own units, whose number is `unit`, or the end of the calendar
+-- `first` is a day in one of the rule's own units, whose number is `unit`, or the end of the calendar; from `day` on, no day of the
+-- pattern is before it
 pub record IsUnitFrom (rule : Rule) (start day : ℤ) (unit : ℕ) (first : ℤ) : Type 0 where
   pub bounds : IsDayOrEnd first
   pub not_before : day ≤ℤ first

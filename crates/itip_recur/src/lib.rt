@@ -4,8 +4,9 @@
 //! single, opaque or repeats as a [`Series`]. [`occurrences`] lists the moments of a series in a window of
 //! days, at most 100,000, and [`all_occurrences`] without that limit; [`is_day`] asks for one day.
 //!
-//! The lists of a rule are read once, as sets, so repeated values cost nothing more. A window far from the start
-//! costs nothing for the occurrences before it; with COUNT it costs at most one step for each month before it.
+//! [`occurrences`] makes sets of a rule's lists first, so that a day costs the same however long they are. A window far from
+//! the start costs nothing for the occurrences before it; with COUNT it costs at most one step for each month before it, of
+//! which at most some thirty are walked through day by day.
 #![tactic(auto)]
 
 mod ascending;

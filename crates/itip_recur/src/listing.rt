@@ -207,7 +207,7 @@ fn add_on_day(
     }
 }
 
-// Adds the moments of RDATE in the window to those that were found.
+// Adds the moments of RDATE in the window that aren't excluded to those that were found.
 fn with_rdates(
     found: Ascending,
     series: &Series,

@@ -77,7 +77,7 @@ pub(crate) fn end_of_days(rule: &Rule, start: &Moment, end: i32) -> i32
     if last < end { last } else { end }
 }
 
-// Like `end_of_days`, but only for the repeats before `end`.
+// Like `end_of_days`, but says nothing of the repeats from `end` on.
 fn end_of_rule(rule: &Rule, start: &Moment, end: i32) -> i32
     requires { IsDayOrEnd end }
     ensures bounds { IsDayOrEnd result }

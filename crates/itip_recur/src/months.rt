@@ -18,7 +18,7 @@ const SHAPES: usize = 224;
 /// Marks a shape that was not met yet.
 const UNKNOWN: u32 = u32::MAX;
 
-/// As many whole periods or months after the start as COUNT leaves room for and as lie before `end`.
+/// Whole periods, or the rest of the start's month and whole months, that lie before `end`, as far as COUNT leaves room for them.
 pub(crate) fn passed_days(walk: &Walk<'_>, count: u32, end: i32) -> Passed
     requires end_in { IsDayOrEnd end }
     ensures fits { 1 + result.seen < 2 ^ 32 }
@@ -119,8 +119,8 @@ fn pass_months(walk: &Walk<'_>, count: u32, end: i32, before: u32, from: Calenda
     }
 }
 
-// How many days of the pattern lie in the month that begins with `first`. Months of one shape have equally many, so each shape
-// is walked through only once.
+// How many days of the pattern lie in the month that begins with `first`. The rule's own months of one shape have equally many, so
+// each shape is walked through only once.
 fn seen_in_month(walk: &Walk<'_>, met: &mut [u32; SHAPES], first: &CalendarDay) -> u32
     requires by_months { IsByMonths walk.now.rule.now.frequency }
     requires is_first { day_of_month first.now.number ≡ 1 }

@@ -7,7 +7,7 @@ use itip_state::State;
 use itip_view::{RowsByUid, Wanted, Window};
 use std::alloc::Global;
 
-/// No rows of a state: what a report that tells of none looks at. Fails if an allocation fails.
+/// No rows of a state, for [`report_lines`](crate::report_lines) of a report that isn't of rows. Fails if an allocation fails.
 pub fn no_rows(alloc: Global, state: &State, window: Window) -> Result<RowsByUid<'_, '_>, NoMemory>
     ensures { IfOk result (AreAsked (λ row. ⊥) state.now window) }
 {

@@ -19,8 +19,8 @@ pub fn cancelled(alloc: Global, state: &State) -> Result<Vec<String>, NoMemory>
     lines_of(alloc, state, Report::Cancelled)
 }
 
-/// Answers and refresh requests for which neither the to-do nor the instance is known: `uid id answer address` and `uid id refresh
-/// address`. Fails if an allocation fails.
+/// Answers and refresh requests for which neither the to-do nor the instance is known: `uid id answer address` and
+/// `uid id refresh address`. Fails if an allocation fails.
 pub fn orphans(alloc: Global, state: &State) -> Result<Vec<String>, NoMemory>
     ensures lines { IfOk result (λ lines. AreReportLines Report.Orphans state.now (map string_bytes lines.items)) }
     ensures succeeds { state.now ≡ [] → IsOk result }

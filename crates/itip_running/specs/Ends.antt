@@ -109,11 +109,11 @@ seen p = batches_of (publishes_seen p)
 abbrev pub pass_pair : Pass → Option Book
 pass_pair p = end_reader_pair p.end
 
--- the groups that were published when a receipt was given
+-- the groups that a receipt tells of: those that were published when a keeper gave it, or those that a pass had seen
 abbrev pub publishes_told : Receipt → List Group
 publishes_told r = r.front.seen.log
 
--- the batches that were published then
+-- the batches of these groups
 abbrev pub told : Receipt → List (List Item)
 told r = batches_of r.front.seen.log
 

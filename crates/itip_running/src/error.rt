@@ -8,14 +8,14 @@ use itip_view::ViewError;
 use std::alloc::AllocError;
 use thiserror::Error;
 
-/// Why a keeper published nothing, or a pair was not made or not taken apart.
+/// Why a keeper published nothing, a pair was not made, or a pair that was taken apart gave no desk.
 #[derive(Clone, Copy, PartialEq, Eq, Debug, Drop, Error)]
 pub enum LiveError {
     /// An allocation failed (40).
     #[error("no memory for a running desk")]
     NoMemory,
-    /// The pair gave no place to a reader, or there were not one to eight passes; or a pass or the history is ahead of its keeper, which
-    /// no run of one pair meets (41).
+    /// The pair gave no place to a reader, or there were not one to eight passes; or a pass is ahead of its keeper, or a group can't be
+    /// added to the history, which no run of one pair meets (41).
     #[error("no place at a running desk")]
     NoPlace,
     /// The number of published batches would exceed `u64::MAX` (21).

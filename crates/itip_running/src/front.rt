@@ -64,8 +64,8 @@ impl Front {
         false
     }
 
-    /// The history with one more group, which has `batches` batches in all. `None` if its groups can't be counted, or if someone else has
-    /// added to the history, which nobody else can.
+    /// The history with one more group, which has `batches` batches in all. `None` if it has `u64::MAX` groups already, or if someone else
+    /// has added a group, which can't happen.
     pub(crate) fn followed_by(
         &self,
         head: &Head,

@@ -65,8 +65,9 @@ impl Keeper {
         }
     }
 
-    /// Publishes all that is pending at once, and returns a receipt of all that is then published. Waits for passes that are reading.
-    /// What is pending is one group of batches, preceded by those of calls that were refused; no pass ever sees a part of a group.
+    /// Publishes all that is pending at once, and returns a receipt of all that is then published. Waits first for passes that still read
+    /// what the publish before it replaced. What is pending is one group of batches, preceded by those of calls that were refused; no pass
+    /// ever sees a part of a group.
     ///
     /// Fails with [`LiveError::NoMemory`] (40) if an allocation fails, with [`LiveError::BatchesSpent`] (21) exactly if the number of
     /// published batches would exceed `u64::MAX`, and with [`LiveError::NoPlace`] (41) if the group can't be added to the history, which

@@ -31,7 +31,7 @@ pub(crate) struct Look {
     pub(crate) alloc: Global,
     pub(crate) reading: PublishedReading,
     pub(crate) front: Front,
-    /// Whether something was published since the reader was last here.
+    /// Whether something is published that the reader has neither seen nor been told of.
     pub(crate) is_news: bool,
     ghost tied: { view reading.place ≡ name_of front.seen.book },
     ghost whole: { reading.part.value.history ≡ batches_of front.seen.log } by { Coded-set (coded_list (coded_list item.the_row.coded)) _ _ },
@@ -65,9 +65,9 @@ impl Look {
         }
     }
 
-    /// The text of the task list in a window. If something was published since the last look, the keeper is active: then only what the
-    /// list is made of is taken during the read, each item shared, so that the keeper waits for no row. Otherwise the list is made here,
-    /// and nothing is copied.
+    /// The text of the task list in a window. If something is published that the pass has neither seen nor been told of, the keeper is
+    /// active: then only what the list is made of is taken during the read, each item shared, so that the keeper waits for no row.
+    /// Otherwise the list is made here, and nothing is copied.
     pub(crate) fn list(self, window: Window) -> (ReadEnd, Result<Vec<u8>, PassError>)
         ensures text { IfOk result.1 (λ text. IsListText (heard (reader_seen result.0)) window text.items) }
         ensures many { IsErrOf result.1 PassError.TooManyRows → AreTooMany (heard (reader_seen result.0)) window }

@@ -6,7 +6,7 @@ use crossbeam_utils::rule::{Outcome, Protocol};
 use left_right::reader::{Reader, Reading};
 use left_right::writer::Writer;
 
-/// The value is the desk of its history, and all seats speak of one history.
+/// The batches of the value are those of its groups, and every seat that knows a history knows this one.
 pub(crate) struct Ties;
 
 impl Protocol<Published, KnownHistory> for Ties {

@@ -19,7 +19,8 @@ pub struct OpenDesk {
 }
 
 /// Starts a desk with `passes` passes, does some work with it, and takes the pair apart, whatever the work returns. The work may use `?`,
-/// which code that owns a keeper may not. Returns what the work returned, and the desk of all that was published in the end.
+/// which code that owns a keeper may not. Returns what the work returned, and the desk of all that was published in the end, in a [`Met`]
+/// whose `seen` is empty.
 ///
 /// Fails with [`LiveError::NoMemory`] (40) if an allocation fails, and with [`LiveError::NoPlace`] (41) if the pair gives no place to a
 /// reader or `passes` isn't 1 to 8. An error of the work comes before one of taking the pair apart.

@@ -17,7 +17,7 @@ use left_right::writer::Writer;
 use std::alloc::Global;
 use std::sync::Wait;
 
-/// One pass of the pair, which knows whose history it reads. Refused if the pair gives no place to a reader (41).
+/// One pass of the pair, which knows which history it reads. Refused if the pair gives no place to a reader (41).
 fn seat(alloc: Global, writer: &mut PublishedWriter, last: &Front) -> Result<Pass, LiveError>
     requires known { view writer.old.desk.place ≡ name_of last.now.seen.book }
     ensures writer { (writer.new.desk.shown ≡ writer.old.desk.shown) × (writer.new.log ≡ writer.old.log)
@@ -86,7 +86,7 @@ pub fn start_desk<R: AllocGlobal + Wait>(
         Ok(writer) => writer,
         Err(_) => return Err(LiveError::NoMemory),
     };
-    // The exchange tells the writer whose history it is, so that it can tell readers.
+    // The exchange tells the writer which history it is, so that it can tell readers.
     let (mut writer, done) = writer.publish_as::<Sees, R>(rt);
     match done {
         Ok(()) => {}

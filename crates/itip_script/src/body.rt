@@ -19,7 +19,7 @@ pub enum Body {
 
 /// Reads exactly `octets` bytes. If they are more than `limit`, they are read past and not held.
 ///
-/// The first failed read is returned as [`StreamFault::Read`].
+/// The first failed read is returned as [`StreamFault::Read`]. If an allocation fails, the error is [`StreamFault::Memory`].
 pub fn read_body<R: Read>(
     alloc: Global,
     reader: &mut R,

@@ -27,7 +27,7 @@ pub enum Command<'a> {
     Next { desk: u64, uid: &'a [u8] },
     /// `!entries d`
     Entries { desk: u64 },
-    /// Any other line that begins with `!`, or a stretch of lines that belongs to no command.
+    /// Any other line that begins with `!`, or a stretch of lines, not all empty, that belongs to no command.
     Malformed,
 }
 

@@ -11,7 +11,7 @@ pub const MAX_OCTETS: usize = 16_777_216;
 /// Reads a whole script. Returns `None` if it has more than [`MAX_OCTETS`] bytes; the rest is then not read.
 ///
 /// The first failed read is returned as [`StreamFault::Read`], and so is a script for which
-/// [`MAX_READS`](itip_streams::MAX_READS) reads are not enough.
+/// [`MAX_READS`](itip_streams::MAX_READS) reads are not enough. If an allocation fails, the error is [`StreamFault::Memory`].
 pub fn read_script<R: Read>(alloc: Global, reader: &mut R) -> Result<Option<Vec<u8>>, StreamFault>
     ensures whole { IfOk result (λ found. IfSome found (λ script.
         (vec_len script ≤ 16777216) × IfSome (R.remaining reader.old) (λ input. script.items ≡ input))) }

@@ -99,7 +99,7 @@ abbrev pub IsPlaceOf : Option Key → Key → Type 0
 IsPlaceOf None key = is_series key ≡ true
 IsPlaceOf (Some place) key = (place ≡ key) × (is_series key ≡ false)
 
--- the item is a series item of the UID
+-- the series item, if there is one, is of the UID
 abbrev pub IsSeriesAt : List ℕ → Lift Best → Type 0
 IsSeriesAt uid Nothing = Unit {0}
 IsSeriesAt uid (Known series) = series.value.key ≡ Series uid

@@ -134,8 +134,8 @@ fn pop_below(due: &mut Due, below: u32) -> Option<(u32, Slot)>
     due.pop_first()
 }
 
-/// Removes the item of a slot that was in the set, if the series item kills it. Otherwise the slot is put back under the sequence of the
-/// item. Returns false if the memory for that is missing.
+/// Removes the item of a slot that was in the set, if the series item kills it. If it doesn't, the slot is put back under the sequence of
+/// the item. Returns false if the memory for that is missing. If there is no item at the slot, nothing is done.
 fn settle(entries: &mut Keyed<Slot, Best>, due: &mut Due, slot: Slot, series: &Lift<Best>) -> bool
     requires { (key : Key) (best : HeldBest) → value_at slot_cmp entries.old.map key ≡ Some best → key_can_die key ≡ true
         → (key ≡ slot) ⊎ IsDue due.old key best }

@@ -47,7 +47,7 @@ struct Newer<'a> {
     best: Best,
 }
 
-/// Joins in what is kept of one item, in place. If an allocation fails, nothing changes.
+/// Joins in what is kept of one item, in place. On an error nothing changes.
 pub(crate) fn hear(held: &mut Held, item: &SharedItem) -> Result<(), NoMemory>
     ensures kept { OnOk result ((heard : List Item) → HoldKept heard held.old → HoldKept (heard ++ item.now ∷ []) held.new) }
     ensures err { OnErr result (held.new ≡ held.old) }
@@ -76,7 +76,7 @@ fn newer_of(held: &Held, item: &SharedItem) -> Result<Option<Best>, NoMemory>
     }
 }
 
-/// Joins in what is kept of these items, in place. If an allocation fails, nothing changes. If none of them is news, it succeeds.
+/// Joins in what is kept of these items, in place. On an error nothing changes. If none of them is news, it succeeds.
 pub(crate) fn hear_all(
     held: &mut Held,
     alloc: Global,
@@ -99,8 +99,8 @@ pub(crate) fn hear_all(
     }
 }
 
-/// Joins in what is kept of these items, in place. If an allocation fails, what was changed is changed back. A single item needs no note:
-/// hearing it is all or nothing.
+/// Joins in what is kept of these items, in place. On an error what was changed is changed back. A single item needs no note: hearing it
+/// is all or nothing.
 fn hear_each(held: &mut Held, alloc: Global, items: &[&SharedItem]) -> Result<(), NoMemory>
     ensures ok { OnOk result ((heard : List Item)
         → HoldKept heard held.old → HoldKept (heard ++ map (λ item. item.now) items.now) held.new) }

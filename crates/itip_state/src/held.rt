@@ -75,7 +75,7 @@ impl Held {
         self.map.get(uid)
     }
 
-    /// Joins in what is held if this item alone was heard, in place. If an allocation fails, nothing changes.
+    /// Joins in what is held if this item alone was heard, in place. On an error nothing changes.
     pub(crate) fn join_one(&mut self, item: &SharedItem) -> Result<(), NoMemory>
         ensures joined { OnOk result (IsJoinedAt (at self.old (uid_of item.now.key)) (Some (alone item.now))
             (at self.new (uid_of item.now.key))) }
@@ -188,8 +188,8 @@ impl Held {
         Ok(items)
     }
 
-    /// Appends the items of a UID that a series item with this effective sequence makes dead. If there is a set for the UID, the others
-    /// are not looked at.
+    /// Appends the items of a UID that a series item with this effective sequence makes dead. If there is a set for the UID, only items
+    /// that may be dead are looked at.
     pub(crate) fn share_under(
         &self,
         uid: &Uid,

@@ -4,7 +4,7 @@ ghost use Rattle.itip_items.specs.declared.item.Item.{Item};
 ghost use Rattle.itip_state.specs.Kept.{AreKept, ArePart, SameItems, IsKept};
 ghost use Rattle.itip_state.specs.Order.{IsState, IsBelow, IsLeastUpperBound};
 
-/// What is kept of what was kept is what is kept of all (our own rule).
+/// Two sets together keep the same items as their kept items together: what isn't kept can be forgotten (our own rule).
 pub fn kept_of_kept()
     ensures { (x y kept_x kept_y : List Item) → AreKept kept_x x → AreKept kept_y y →
         (item : Item) → IsKept (kept_x ++ kept_y) item ↔ IsKept (x ++ y) item }

@@ -98,7 +98,7 @@ impl<'a> ItemsOfUid<'a> {
     }
 
     /// The answer of an attendee, by its key (`itip_todo::attendee_key`), to the instance of a moment, or to the to-do as a whole if `at`
-    /// is `None`. Returns `None` if none is kept. Allocates nothing.
+    /// is `None`. It may be a removal, which has the same key. Returns `None` if none is kept. Allocates nothing.
     pub fn answer(&self, at: Option<&Moment>, attendee: &str) -> Option<&'a Item>
         ensures { IsBestOf self.now.items (key.Answer self.now.uid (option_copied at.entry) attendee.now) (option_copied result) }
     {

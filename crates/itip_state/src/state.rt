@@ -144,7 +144,7 @@ impl State {
         Ok(news)
     }
 
-    /// Hears these items. If an allocation fails, nothing changes. If none of the items is news, it succeeds.
+    /// Hears these items. Fails only if an allocation failed, and then nothing changes. If none of the items is news, it succeeds.
     pub fn hear(&mut self, items: &[&SharedItem]) -> Result<(), NoMemory>
         ensures ok { OnOk result (AreKept self.new (self.old ++ map (λ item. item.now) items.now)) }
         ensures succeeds { IsBelow (map (λ item. item.now) items.now) self.old → IsOk result }
@@ -154,8 +154,8 @@ impl State {
     }
 
     /// The kept items that can give way to these, shared with this state: those at their keys, and those that are dead below them. They
-    /// come in no particular order, perhaps more than once, and perhaps with other kept items. Of a UID with many items, the others are
-    /// looked at only if there is no set yet of those that can die.
+    /// come in no particular order, perhaps more than once, and perhaps with other kept items. Of a UID with many items, all are looked
+    /// at only if there is no set yet of those that can die.
     ///
     /// Fails if an allocation fails.
     pub fn giving_way(&self, news: &[&SharedItem]) -> Result<Vec<SharedItem>, NoMemory>

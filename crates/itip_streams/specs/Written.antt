@@ -2,7 +2,7 @@
 use Rattle.std.specs.Prelude.{◌≡◌, ℕ, Bool, List, ◌++◌, Option}
 use Rattle.std.specs.Io.KnownBytes.{Appends}
 
--- Known bytes grow by an output of which this holds, together with what is said of it.
+-- Known bytes grow by an output of which `Is` holds, with `said` as what is said of that output.
 pub record WritesOutput (Is : List ℕ → Bool → Type 0) (old new : Option (List ℕ)) (said : Bool) : Type 0 where
   pub output : List ℕ
   pub is_output : Is output said

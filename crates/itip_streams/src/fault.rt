@@ -11,7 +11,7 @@ pub enum StreamFault {
     /// A read failed, or there were too many.
     #[error("read failed")]
     Read,
-    /// A write failed, or accepted no bytes.
+    /// A write failed or accepted no bytes, a flush failed, or a file couldn't be replaced.
     #[error("write failed")]
     Write,
     /// An allocation failed.

@@ -12,8 +12,8 @@ use std::{fs, io};
 /// files in it whose names end in `.ics`, in any case, sorted by the bytes of their names; links are followed, and folders in it are
 /// not entered. Every other word is a file of that name, which need not exist.
 ///
-/// A folder that can't be listed, that has a name which isn't UTF-8, or a name that ends in `.ics` and leads nowhere, is
-/// [`SourceName::Unreadable`]. Fails if an allocation fails.
+/// A folder that can't be listed, that has a name which isn't UTF-8, or a name that ends in `.ics` and leads nowhere or can't be asked
+/// about, is [`SourceName::Unreadable`]. Fails if an allocation fails.
 pub fn source_names<R: Files + AllocGlobal + Clone + Drop>(
     rt: &R,
     words: &[String],

@@ -73,7 +73,7 @@ pub fn read_some<R: Read + ReadOnce>(
     }
 }
 
-/// Reads a line with its LF, or what is left if no LF follows: no bytes at the end. Returns `None` for a line of more than `limit`
+/// Reads a line with its LF, or what is left if no LF follows, which is empty at the end. Returns `None` for a line of more than `limit`
 /// bytes, LF included; all of it has been read.
 ///
 /// The first failed read is returned as [`StreamFault::Read`]. If an allocation fails, the error is [`StreamFault::Memory`], and no

@@ -51,8 +51,9 @@ impl<'a, R: Files + AllocGlobal> Replacement<'a, R> {
         })
     }
 
-    /// Ends the writing, of which `done` is the result. If that is a fault, what was written is removed, the file is left as it was, and
-    /// the fault is returned. After a fault of its own, [`StreamFault::Memory`] or [`StreamFault::Write`], it does the same.
+    /// Ends the writing, of which `done` is the result. If that is `Ok`, the file is replaced, and `done` is returned. If it is a fault,
+    /// what was written is removed, the file is left as it was, and the fault is returned. After a fault of its own,
+    /// [`StreamFault::Memory`] or [`StreamFault::Write`], it does the same.
     pub fn end(mut self, done: Result<bool, StreamFault>) -> Result<bool, StreamFault>
         ensures same { IfOk result (λ refused. done ≡ Ok refused) }
         ensures failed { IfErr done (λ fault. result ≡ Err fault) }

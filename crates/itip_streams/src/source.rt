@@ -10,8 +10,8 @@ use std::io::Read;
 use std::rt::Files;
 use std::{fs, io};
 
-/// A reader of a source. A file is opened when it is first read, and closed as soon as a read returns no bytes; from then on reads
-/// return none. Each read of an unreadable source fails.
+/// A reader of a source. A file is opened when it is first read, and closed as soon as a read finds its end; from then on reads return no
+/// bytes. Each read of an unreadable source fails.
 #[derive(Drop)]
 pub struct Source<'a, R: Files, I> {
     files: &'a R,
@@ -92,7 +92,7 @@ impl<'a, R: Files, I: Read + Drop> Read for Source<'a, R, I> {
     }
 }
 
-/// Reads from a reader that is dropped as soon as a read returns no bytes. From then on reads return none.
+/// Reads from a reader that is dropped as soon as a read finds its end. From then on reads return no bytes.
 fn read_and_drop<R: Read + Drop>(reader: &mut Option<R>, buf: &mut [u8]) -> io::Result<usize>
     ensures bound { ReadsAtMost result buf.new }
     ensures bytes { ReadConsumes (left R.remaining reader.old) (left R.remaining reader.new) result buf.new }

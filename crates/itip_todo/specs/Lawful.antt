@@ -1,5 +1,5 @@
--- What holds of every to-do: the values, counts and orders of the table of properties (RFC 5545 3.6.2; the limits
--- and orders are our own).
+-- What holds of every to-do: the values, counts and orders of the table of properties (RFC 5545 3.6.2; the orders, and
+-- the limits of SEQUENCE, X-DESK-BASE and ATTENDEE, are our own).
 use Rattle.std.specs.Prelude.{◌≡◌, ◌≤◌, ◌<◌, ℕ, List, length, map, IsTrue, Some}
 use Rattle.std.specs.Option.{is_some}
 use Rattle.std.specs.List.{AllByRecursion, IsDistinct, list_all}

@@ -1,4 +1,4 @@
--- What the values of a to-do's properties may be (RFC 5545 3.3; the ranges are our own).
+-- What the values of a to-do's properties may be (RFC 5545 3.3 and 3.8; the limit of SEQUENCE and X-DESK-BASE is our own).
 use Rattle.std.specs.Prelude.{◌≡◌, ◌<◌, ◌≤◌, ◌⊎◌, ℕ, List, [], ◌∷◌, ◌++◌, length, codes, Some}
 use Rattle.std.specs.List.{All}
 use Rattle.std.specs.Str.Parse.{digits_value, IsNumeral, without_leading_plus}
@@ -27,8 +27,7 @@ pub record AreDigitsUpTo (limit : ℕ) (text : List ℕ) (n : ℕ) : Type 0 wher
   pub value : n ≡ digits_value 10 (without_leading_plus text)
   pub small : n ≤ limit
 
--- a whole number of at most this value: an optional sign and digits; after a minus it can only be 0 (RFC 5545 3.3.8;
--- the limits are our own)
+-- a whole number of at most this value: an optional sign and digits; after a minus it can only be 0 (RFC 5545 3.3.8)
 abbrev pub IsNumberUpTo : ℕ → List ℕ → ℕ → Type 0
 IsNumberUpTo limit text n = (AreNoughts text × (n ≡ 0)) ⊎ AreDigitsUpTo limit text n
 

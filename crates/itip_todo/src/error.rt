@@ -24,10 +24,10 @@ pub enum TodoCause {
     /// RECURRENCE-ID has a RANGE other than THISANDFUTURE.
     #[error("RECURRENCE-ID has a RANGE other than THISANDFUTURE")]
     Range,
-    /// There are too many attendees.
+    /// There are more than 2,000 attendees (our own limit).
     #[error("there are too many attendees")]
     TooMany,
-    /// Two attendees have the same address.
+    /// Two attendees have the same address, ignoring ASCII case.
     #[error("two attendees have one address")]
     SameAttendee,
 }

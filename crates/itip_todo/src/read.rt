@@ -15,9 +15,9 @@ use std::alloc::Global;
 
 /// Parses the lines between BEGIN:VTODO and END:VTODO, without nested components, as a to-do (RFC 5545 3.6.2).
 ///
-/// The first faulty line decides: a property that appears twice, then a RANGE other than THISANDFUTURE on RECURRENCE-ID,
-/// then a bad value, then too many attendees, then two with the same address. If no line is faulty, a missing UID decides,
-/// and then a missing DTSTAMP; neither is at a line. Of RANGE the first value of the first one counts, ignoring case; on
+/// The first faulty line decides: a property that may appear once and appears again, then a RANGE other than THISANDFUTURE on
+/// RECURRENCE-ID, then a bad value, then too many attendees, then two with the same address. If no line is faulty, a missing UID
+/// decides, and then a missing DTSTAMP; neither is at a line. Of RANGE the first value of the first one counts, ignoring case; on
 /// other properties it is ignored.
 pub fn read_todo(alloc: Global, lines: &[NumberedLine<'_>]) -> Result<Todo, TodoError>
     ensures found { IfOk result (λ todo. ReadsTodo (plain_lines lines.now) todo) }

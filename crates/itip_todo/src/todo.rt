@@ -41,7 +41,8 @@ pub struct Todo {
     pub summary: Option<Property>,
     /// ORGANIZER with its parameters; the address is not empty.
     pub organizer: Option<Property>,
-    /// ATTENDEE with its parameters, in order of appearance; no address is empty, and no two are the same.
+    /// ATTENDEE with its parameters, in order of appearance, at most 2,000; no address is empty, and no two are the same, ignoring
+    /// ASCII case.
     pub attendees: ListOf<Property>,
     /// The values of RRULE as they are written, in order of appearance.
     pub rule: TextList,

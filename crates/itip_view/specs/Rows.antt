@@ -1,6 +1,6 @@
 -- The rows of a task list (our own rules): one for each standing live instance, one for each occurrence of a live series at
--- which no instance stands and which an item governs, and one for each live to-do that doesn't recur or whose recurrence
--- isn't expanded.
+-- which no instance stands and which an item governs, one for each live to-do that doesn't recur, unless an instance stands at
+-- its DTSTART, and one for each live to-do whose recurrence isn't expanded.
 use Rattle.std.specs.Prelude.{◌≡◌, ◌⊎◌, ℕ, ◌<◌, ℤ, pos, ◌-ℤ◌, List, [], ◌∷◌, Option, Some, None, unwrap_or, length, max}
 use Rattle.std.specs.Option.{option_map, option_cmp}
 use Rattle.std.specs.List.{Contains, AllPairs}

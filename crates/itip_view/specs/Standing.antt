@@ -1,4 +1,4 @@
--- Which item stands at an instance, or from one on, and which item governs a place of the list (our own rules).
+-- Which item stands at an instance, or from one on, and which item governs a to-do as a whole, or a moment (our own rules).
 use Rattle.std.specs.Prelude.{◌≡◌, ◌≢◌, ◌⊎◌, ◌≤◌, ◌<◌, ℕ, Bool, true, false, List, Option, Some, None, if◌then◌else◌}
 use Rattle.std.specs.declared.cmp.Ordering.TheVariants.{Less}
 use Rattle.itip_moment.specs.Moment.{moment_form, moment_zone}

@@ -30,7 +30,7 @@ pub record HasUnbrokenAttendee (attendee : ShownAttendee) : Type 0 where
   pub address : IsUnbroken attendee.address
   pub percent : IfSome attendee.percent IsSmallNumber
 
--- no text of the row has a line break, and its numbers fit into 64 bits, as those of its types do
+-- no text of the row has a line break, and its numbers fit into 64 bits, as every `u8` and `u32` does
 pub record HasUnbrokenTexts (row : Row) : Type 0 where
   pub uid : IsUnbroken row.uid
   pub id : IsUnbroken (id_text row.id)

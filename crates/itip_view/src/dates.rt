@@ -31,7 +31,7 @@ pub(crate) fn instance_day(at: &Moment, todo: &Todo) -> Option<i32>
 
 /// DUE of an occurrence: that of the series, moved by the distance from DTSTART to the occurrence.
 ///
-/// `None` if the series has no DUE, if DTSTART and the occurrence differ in form or zone, or if DUE can't be moved that far.
+/// `None` if the series has no DUE, if DTSTART and the occurrence differ in form or zone, or if DUE can't be moved so.
 pub(crate) fn due_of(
     due: &Option<Moment>,
     start: &Moment,
@@ -49,7 +49,7 @@ pub(crate) fn due_of(
 }
 
 /// START of an occurrence that a range item rules: the item's DTSTART, moved by the distance from its id to the occurrence;
-/// without DTSTART the occurrence itself.
+/// without DTSTART the occurrence itself. `None` if DTSTART has another form or zone than the id, or can't be moved so.
 pub(crate) fn start_from(
     start: &Option<Moment>,
     id: &Moment,
@@ -64,6 +64,7 @@ pub(crate) fn start_from(
 }
 
 /// DUE of an occurrence that a range item rules: that of the item, moved by the distance from its id to the occurrence.
+/// `None` if the item has no DUE, or one of another form or zone than the id, or if it can't be moved so.
 pub(crate) fn due_from(
     due: &Option<Moment>,
     id: &Moment,
@@ -77,7 +78,7 @@ pub(crate) fn due_from(
     }
 }
 
-/// A date of a range item as an occurrence shows it; `None` if its form or zone isn't that of the id, or it can't be moved so far.
+/// A date of a range item as an occurrence shows it; `None` if its form or zone isn't that of the id, or it can't be moved so.
 fn date_from(date: &Moment, id: &Moment, at: &Moment) -> Result<Option<Moment>, NoMemory>
     ensures { IfOk result (IsDateFrom date.now id.now at.now) }
 {
@@ -87,7 +88,8 @@ fn date_from(date: &Moment, id: &Moment, at: &Moment) -> Result<Option<Moment>, 
     moved(date, id, at)
 }
 
-/// A date, moved by the distance from one moment to another; `None` if it can't be moved that far.
+/// A moment, moved by the distance from one moment to another; `None` if the result is outside the years 0000 to 9999, or if a date
+/// would be moved by part of a day.
 fn moved(date: &Moment, from: &Moment, at: &Moment) -> Result<Option<Moment>, NoMemory>
     ensures { IfOk result (λ moved. MatchOption moved
         (CanShift date.now (days_to from.now at.now) (seconds_to from.now at.now) → ⊥) (IsMoved date.now from.now at.now)) }

@@ -20,7 +20,8 @@ IsToldOf error (no_call.BadValue text) = ⊥
 IsToldOf error no_call.NoClock = ⊥
 IsToldOf error no_call.NoMemory = ⊥
 
--- Why there is no call for words that `clap` takes: a value is bad or there is no clock, and Nothing holds; or an allocation failed.
+-- Why there is no call for words that `clap` takes: a value is bad or there is no clock, and `Nothing`, which says that there is no such
+-- call, holds; or an allocation failed.
 abbrev pub IsCause : Type 0 → Option Stamp → NoCall → Type 0
 IsCause Nothing clock (no_call.Help error) = ⊥
 IsCause Nothing clock (no_call.Refused error) = ⊥

@@ -15,8 +15,8 @@ use clap::{Arg, ArgAction, Command};
 use itip_writing::VERSION;
 use std::alloc::{AllocError, Global};
 
-// No option has a rule on another, as `clap` says which words it refuses only for a command without such rules. What `--load` and
-// `--onward` need besides is checked in words.rt and asked.rt, and told in wrong.rt.
+// No option has a rule on another: the contract of `clap` says which words are refused only for a command without such rules. What
+// `--load` and `--onward` need besides is checked in words.rt and asked.rt, and told in wrong.rt.
 
 /// The program, with its words.
 pub(crate) fn command<'a>(alloc: Global) -> Result<Command<'a>, AllocError>

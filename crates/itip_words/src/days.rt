@@ -18,7 +18,8 @@ const SECONDS_OF_DAY: u64 = 86_400;
 // 9999-12-31
 const LAST_DAY: u64 = 2_932_896;
 
-// How many days before and after today a window goes if neither of its ends is named, and rows are not asked for by their DUE.
+// How many days before and after today a window goes if neither of its ends is named. If rows are asked for by their DUE, it begins
+// earlier.
 const DAYS_AROUND: i32 = 366;
 
 /// The moment of a clock, in UTC. `None` if it can't be read, or shows a time before 1970 or after the year 9999.
@@ -84,7 +85,7 @@ fn given_day(word: Option<&str>) -> Option<Option<Day>>
 }
 
 /// The window that the words for its first day and for the day after its last ask for. If one of them is absent, its end is
-/// reckoned from the other; if both are, from today. With `is_due` rows are asked for by their DUE, and the window begins earlier.
+/// counted from the other; if both are, from today. With `is_due` rows are asked for by their DUE, and such a window is longer.
 /// `None` if a word is no date, if there is no such window, or if it depends on today and today isn't known.
 pub(crate) fn asked_window(
     from: Option<&str>,
@@ -141,7 +142,7 @@ fn days_long(is_due: bool) -> i32
     if is_due { 3_656 } else { 732 }
 }
 
-/// The day of a word that is a date, or `today`. `None` if it is neither, or if today isn't known.
+/// The day of a word that is a date, or `today`. `None` if it is neither, or if it is `today` and today isn't known.
 pub(crate) fn due_day(word: &str, today: Option<Day>) -> Option<Day>
     ensures { MatchBool (is_today word.now) (result ≡ today)
         (MatchOption result ((day : ℤ) → IsDateText word.now day → ⊥) (λ day. IsDateText word.now day.number)) }

@@ -19,7 +19,7 @@ pub enum NoCall {
     /// A word doesn't take its value, an option lacks or excludes another, or standard input would be read twice; this says which, in
     /// lines of its own.
     BadValue(String),
-    /// What is asked for depends on the time, which the clock doesn't tell.
+    /// The word needs today or the moment of writing, and neither the words nor the clock tell it.
     NoClock,
     NoMemory,
 }

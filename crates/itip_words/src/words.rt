@@ -26,7 +26,7 @@ use itip_script::read_number;
 use itip_view::Window;
 use std::alloc::{AllocError, Global};
 
-/// The most desks of a run.
+/// The most desks of a run or an office.
 const MAX_DESKS: u64 = 16;
 
 /// The most workers of an office.
@@ -43,7 +43,7 @@ pub enum Call {
     Office { scripted: Scripted, workers: u64 },
     /// A message is read, and its items are shown.
     Check { why: bool },
-    /// Messages are read, and what counts is written.
+    /// Messages are read, and what is asked for is written of them.
     Filter(Filter),
 }
 

@@ -84,7 +84,7 @@ fn wrong_value(
     Ok(None)
 }
 
-/// What is wrong with values that are each good by themselves.
+/// What is wrong with `--load`, or else with days that are each a date.
 fn wrong_beside(alloc: Global, words: &ArgMatches<'_>) -> Result<String, AllocError> {
     if let Some(value) = wrong_load(alloc, words)? {
         let why = "not the number of a desk that no other names, =, and a file";
@@ -139,7 +139,7 @@ fn is_good(alloc: Global, id: &str, value: &str) -> Result<bool, AllocError> {
     }
 }
 
-/// The same for the options that write no message.
+/// The same for the other options.
 fn is_good_of_run(id: &str, value: &str) -> bool {
     match id {
         "desks" => desks_of(value).is_some(),

@@ -1,4 +1,4 @@
--- The texts of answers (our own format). Each line ends with LF. Refusals and lists have the texts that they have at every desk.
+-- The texts of answers (our own format). Each line ends with LF. The texts of refusals and lists are those of `itip_desk`.
 use Rattle.std.specs.Prelude.{ℕ, List, [], ◌∷◌, ◌++◌, length, codes, Option, Some, None}
 use Rattle.std.specs.Fmt.{decimal}
 use Rattle.std.specs.List.{flat_map}
@@ -34,7 +34,7 @@ ended line = line ++ 10 ∷ []
 abbrev pub reported_text : ℕ → ReportName → List (List ℕ) → List ℕ
 reported_text desk named lines = report_head desk named (length lines) ++ flat_map ended lines
 
--- the bytes of the messages to send again, unchanged, after a line with their number
+-- the messages to send again, after a line with the number of their bytes; or that there are none
 abbrev pub resent_text : ℕ → Option (List ℕ) → List ℕ
 resent_text desk (Some bytes) = codes "resend " ++ decimal desk ++ codes " bytes " ++ decimal (length bytes) ++ 10 ∷ bytes
 resent_text desk None = codes "resend " ++ decimal desk ++ codes " none" ++ 10 ∷ []

@@ -1,4 +1,5 @@
--- What a script writes, as a run of a machine over its commands, whose state is what each desk has heard (our own format).
+-- What a script writes, as a run of a machine over its commands, whose state is what each desk has heard and each packet tells (our own
+-- format).
 use Rattle.std.specs.Prelude.{◌≡◌, ℕ, ◌^◌, ◌<◌, ◌≤◌, ◌⊎◌, Bool, true, false, List, [], ◌∷◌, ◌++◌, length, map, Option, Some, None}
 use Rattle.std.specs.Prelude.{slice_get}
 use Rattle.std.specs.List.{flat_map, list_any}

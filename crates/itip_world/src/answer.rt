@@ -15,7 +15,7 @@ pub(crate) struct Heard {
     pub(crate) changed: usize,
 }
 
-/// The answer to a command that doesn't ask for a list. Desks and packets are numbered from 0.
+/// The answer to a command, other than a list. Desks and packets are numbered from 0.
 #[derive(Drop)]
 pub(crate) enum Answer {
     /// Why the command was refused.

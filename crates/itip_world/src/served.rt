@@ -95,7 +95,8 @@ impl Served {
     }
 
     /// Does what a line asks for, and returns why it was refused, if it was. The answer is appended to the bytes in `kept`, which are to
-    /// be written; if it is a list, they are written once there are 65,536 or more.
+    /// be written; if it is a list, they are written once there are 65,536 or more. On an error, a prefix of `kept` has been written, or
+    /// of `kept` and the answer.
     fn reply<R: Read, W: Write, S: Shelf>(
         &mut self,
         asked: &StreamLine<'_>,
@@ -269,8 +270,8 @@ impl Served {
     }
 }
 
-/// What a line that was read asks for, or `None` if nothing was left. Nothing is known of a line that is too long, nor of one without a
-/// line end, which may have been cut off.
+/// What a line that was read asks for, or `None` if nothing was left. A line that is too long (`found` is `None`) is malformed, and so is
+/// one without a line end, which may have been cut off.
 fn asked_by(found: Option<&[u8]>) -> Option<StreamLine<'_>>
     ensures asks { AsksBy (option_copied found.entry) (option_map wish_of result) }
     ensures only { IfSome result (λ asked. AsksOnly (wish_of asked)) }

@@ -11,7 +11,7 @@ use Rattle.itip_todo.specs.declared.property_name.PropertyName.{PropertyName}
 use Rattle.itip_todo.specs.declared.property_name.PropertyName.TheVariants as name
 use Rattle.itip_todo.specs.declared.todo.Todo.{Todo}
 
--- ORGANIZER if there is none: REPLY, CANCEL and REFRESH require it (RFC 5546 3.4.3, 3.4.5 and 3.4.6)
+-- ORGANIZER if there is none: REPLY and CANCEL require it (RFC 5546 3.4.3 and 3.4.5), and for REFRESH we want it as for an event (3.2.6)
 abbrev pub lacking_organizer : Option Property → List PropertyName
 lacking_organizer None = name.Organizer ∷ []
 lacking_organizer (Some organizer) = []

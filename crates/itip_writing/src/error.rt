@@ -6,11 +6,11 @@ use itip_message::MessageRefusal;
 use std::alloc::{AllocError, AllocFailed};
 use thiserror::Error;
 
-/// Why a message can't be written. If several causes apply, the first in this order is returned.
+/// Why a message can't be written. If several causes apply, the first in this order is returned, or `NoMemory` in place of any of them.
 #[derive(Clone, Copy, PartialEq, Eq, Debug, Drop, Error)]
 pub enum WritingError {
-    /// There is no row in question: the to-do isn't known or is cancelled, or nothing stands at the instance. For a resend: no series
-    /// item is live.
+    /// There is no row in question: the to-do or the instance isn't known or is cancelled, or the to-do has no such occurrence. For a
+    /// resend: no series item is live.
     #[error("nothing stands there")]
     NothingStands,
     /// The row in question shows no attendee with an address that was given, or a removal was given no address.

@@ -20,7 +20,7 @@ const WANTED_IN_REQUEST: [PropertyName; 5] = [
     PropertyName::Attendee,
 ];
 
-/// ORGANIZER if there is none: REPLY, CANCEL and REFRESH require it (RFC 5546 3.4.3, 3.4.5 and 3.4.6).
+/// ORGANIZER if there is none: REPLY and CANCEL require it (RFC 5546 3.4.3 and 3.4.5), and for REFRESH we want it as for an event (3.2.6).
 pub(crate) fn lacking_organizer(
     alloc: Global,
     organizer: &Option<Property>,
@@ -34,7 +34,8 @@ pub(crate) fn lacking_organizer(
     Ok(names)
 }
 
-/// ORGANIZER if the to-do of one of these items has none: each message that is sent again requires it (RFC 5546 3.4.2).
+/// ORGANIZER if the to-do of one of these items has none: each message that is sent again, a REQUEST, an ADD or a CANCEL, requires it
+/// (RFC 5546 3.4.2, 3.4.4 and 3.4.5).
 pub(crate) fn lacking_of_items(
     alloc: Global,
     series: &Item,

@@ -26,7 +26,8 @@ ghost use Rattle.itip_writing.specs.declared.answer.Answer.{Answer};
 ghost use Rattle.itip_writing.specs.declared.errand.Errand.{Errand};
 ghost use Rattle.itip_writing.specs.declared.error.WritingError.{WritingError};
 
-/// A message that is written and read back gives the items that it was made of. A REFRESH has no SEQUENCE, which is read as 0.
+/// A message that is written and read back gives the items that it was made of. If it was made of arbitrary to-dos, each has to be what
+/// the method needs, and none of their lines may begin or end a component. A REFRESH has no SEQUENCE, which is read as 0.
 pub fn messages_are_read()
     ensures todos { (m : Method) (all : List Todo) (items : List Item) → AllByRecursion (Suits m) (map parts_of all)
         → (m ≡ method.Refresh → (todo : Todo) → Contains all todo → todo.seq ≡ 0)

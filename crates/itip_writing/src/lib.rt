@@ -1,5 +1,6 @@
-//! The messages that an office sends (RFC 5546 3.4): answers, refresh requests, cancellations, removals of attendees and requests.
-//! Their SEQUENCE and DTSTAMP are chosen so that nothing heard before can overtake them.
+//! The messages that an office sends (RFC 5546 3.4): answers, refresh requests, cancellations, removals of attendees and requests; and
+//! those that it sends again, unchanged. SEQUENCE and DTSTAMP of a new one are chosen so that nothing heard before can overtake it,
+//! except for a refresh request, which one heard with a SEQUENCE above 0 overtakes.
 #![tactic(auto)]
 
 mod answer;

@@ -40,10 +40,10 @@ use std::alloc::Global;
 /// the latest of their kept answers to the same that have this SEQUENCE, if that isn't before `at`. So the removal is later than each
 /// of their answers to the same.
 ///
-/// Fails with `NothingStands` if there is no row in question, with `NoSuchAttendee` if no address is given or the row shows nobody with
-/// one of them, with `NoSequenceLeft` if the greatest SEQUENCE has been used, with `AnswerOvertakes` if one of their answers has a
-/// greater SEQUENCE than the removal, with `NoTimeLeft` if there is no second after an answer with the same one, with `Unreadable` if
-/// the message is too long to be read back, and with `NoMemory` if an allocation fails.
+/// Fails with `NothingStands` if there is no row in question, with `NoSuchAttendee` if no address is given or one is that of nobody that
+/// the row shows, with `NoSequenceLeft` if the greatest SEQUENCE has been used, with `AnswerOvertakes` if one of their answers has a
+/// greater SEQUENCE than the removal, with `NoTimeLeft` if there is no second after an answer with the same SEQUENCE, with `Unreadable`
+/// if the message is too long to be read back, and with `NoMemory` if an allocation fails.
 pub fn removal(
     alloc: Global,
     state: &State,

@@ -35,7 +35,7 @@ pub(crate) struct Revision {
 ///
 /// It is a REPLY with UID, DTSTAMP, the ORGANIZER of the item that governs the row in question, the RECURRENCE-ID `id`,
 /// PERCENT-COMPLETE if the answer has it, and ATTENDEE with PARTSTAT and the address as the item spells it. SEQUENCE is the greater of
-/// that of the item and that of the kept answer of the attendee. DTSTAMP is `at`, or one second after that answer if it has the same
+/// that of the item and that of the attendee's kept answer to the same. DTSTAMP is `at`, or one second after that answer if it has this
 /// SEQUENCE and isn't before `at`.
 ///
 /// Fails with `NothingStands` if there is no row in question, with `NoSuchAttendee` if it shows no attendee with this address, with

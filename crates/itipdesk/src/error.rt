@@ -14,7 +14,7 @@ use itip_writing::WritingError;
 use std::alloc::{AllocError, AllocFailed};
 use std::fmt;
 
-/// Why a call failed: what is wrong, with the number that the program shows for it.
+/// Why a call failed: what is wrong, with its number.
 #[derive(Clone, Copy, PartialEq, Eq, Debug)]
 pub enum Error {
     /// A message, a list, a script, the file of a desk, or what a desk or a packet was asked for is refused (1 to 15, 21, 31, 50, 51,
@@ -28,7 +28,7 @@ pub enum Error {
     Text,
     /// An allocation failed, or a running desk has `usize::MAX` batches pending (40).
     NoMemory,
-    /// A thread could not be made, or a running desk had no place for a reader (41).
+    /// A thread could not be made, or a running desk had no place for a reader, or was to have none or more than eight (41).
     NoPlace,
     /// A running desk refused entry (45).
     NoEntry,

@@ -4,9 +4,9 @@
 //! so for many messages on threads, and [`next_message`] cuts a text into messages. A desk takes what
 //! [`read_batch`](crate::desks::read_batch) returns.
 //!
-//! An [`Item`] says one thing about one [`Key`]: a to-do, an instance of it, an answer. Its canonical bytes are a message that is read
-//! as the item again. [`TodoBuilder`] makes one from a UID, a DTSTAMP and properties; the other messages are those of an
-//! [`Errand`](crate::writing::Errand).
+//! An [`Item`] says one thing about one [`Key`]: a to-do, an instance of it or all from one on, an answer, a refresh request. Its
+//! canonical bytes are a message that is read as the item again. [`TodoBuilder`] makes one from a UID, a DTSTAMP and properties; the
+//! other messages are those of an [`Errand`](crate::writing::Errand).
 //!
 //! Days and stamps are read by `parse`: `"20260105".parse::<Day>()`, `"20260105T080000Z".parse::<Stamp>()`. [`read_moment`] reads any
 //! moment, given its TZID if it has one. No zone is converted.
