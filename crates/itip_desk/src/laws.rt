@@ -1,7 +1,9 @@
 //! The laws of convergence and of deltas. Each function is empty: its contract is the law.
 ghost use Rattle.std.specs.Prelude.{◌≡◌, ◌⊎◌, List, ◌++◌, ℕ};
+ghost use Rattle.itip_todo.specs.Limits.{before_ranges};
 ghost use Rattle.itip_items.specs.declared.item.Item.{Item};
-ghost use Rattle.itip_state.specs.Kept.{AreKept, SameItems};
+ghost use Rattle.itip_state.specs.Kept.{AreKept, SameItems, IsItemsOf};
+ghost use Rattle.itip_message.specs.Several.{ReadsMessagesWithin};
 ghost use Rattle.itip_message.specs.declared.error.MessageRefusal.{MessageRefusal};
 ghost use Rattle.itip_desk.specs.Octets.{AscendOctets};
 ghost use Rattle.itip_desk.specs.Delta.{delta_octets, ReadsDelta, RefusesDelta};
@@ -31,6 +33,13 @@ pub fn delta_brings_up_to_date()
 /// What is written of a batch is read back as this batch.
 pub fn delta_read_again()
     ensures { (batch : List Item) → AscendOctets batch → ReadsDelta (delta_octets batch) batch }
+{}
+
+/// What was read as a delta before instances had ranges is read as a delta with the same items. Back then, each message was read within
+/// narrower limits (our own rule).
+pub fn deltas_are_read_as_before()
+    ensures { (bytes : List ℕ) (given : List (List Item)) (batch : List Item) →
+        ReadsMessagesWithin before_ranges bytes given → IsItemsOf batch (heard given) → ReadsDelta bytes batch }
 {}
 
 /// Bytes are read as one batch or refused for one cause, and never both.
