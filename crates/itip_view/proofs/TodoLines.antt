@@ -63,7 +63,7 @@ next_line text none = then_adds (codes "\n") (32 ∷ text) line_end (blank text 
 
 -- ---- texts
 
-digits_unbroken : (digits : List ℕ) → IsUnbroken (map (λ d. 48 + d) digits)
+pub digits_unbroken : (digits : List ℕ) → IsUnbroken (map (λ d. 48 + d) digits)
 digits_unbroken [] = tt
 digits_unbroken (d ∷ digits) = (λ e. absurd (omega arith), digits_unbroken digits)
 
