@@ -1,5 +1,5 @@
 use Rattle.std.proofs.Common.{refl}
-use Rattle.itip_writing.proofs.removal.is_shown.Goals as goal
+use Rattle.itip_writing.proofs.removing.is_shown.Goals as goal
 
 pub returns-in-Some : goal.returns-in-Some
 returns-in-Some c = (

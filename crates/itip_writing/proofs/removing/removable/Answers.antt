@@ -5,7 +5,7 @@ use Rattle.std.proofs.lemmas.Result.{err_from_is_err_and}
 use Rattle.itip_view.specs.declared.row.ShownAttendee.{ShownAttendee}
 use Rattle.itip_writing.specs.Removing.{ShowsEach}
 use Rattle.itip_writing.proofs.CancelCauses.{none_removable}
-use Rattle.itip_writing.proofs.removal.removable.Goals as goal
+use Rattle.itip_writing.proofs.removing.removable.Goals as goal
 
 pub returns-in_err-row-clause-fault : goal.returns-in_err-row-clause-fault
 returns-in_err-row-clause-fault c =

@@ -1,7 +1,7 @@
 use Rattle.std.specs.Option.{option_copied}
 use Rattle.itip_items.specs.declared.key.Key.TheVariants as keys
 use Rattle.itip_writing.proofs.Latest.{kept_of_best}
-use Rattle.itip_writing.proofs.removal.kept_answer.Goals as goal
+use Rattle.itip_writing.proofs.removing.kept_answer.Goals as goal
 
 pub returns : goal.returns
 returns c =

@@ -1,7 +1,7 @@
 use Rattle.std.proofs.Common.{◌∙◌, sym}
 use Rattle.std.specs.String.{string_bytes}
 use Rattle.itip_writing.proofs.MappedTests.{none_in_empty, some_in_other}
-use Rattle.itip_writing.proofs.removal.shows_each.Goals as goal
+use Rattle.itip_writing.proofs.removing.shows_each.Goals as goal
 
 pub returns-then-is_empty : goal.returns-then-is_empty
 returns-then-is_empty c = (

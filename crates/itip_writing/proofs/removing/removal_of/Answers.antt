@@ -14,7 +14,7 @@ use Rattle.itip_writing.specs.Causes.{IfOvertaken}
 use Rattle.itip_writing.specs.Removing.{IsOvertaken, IsRemovalOf, lines_of, removed_keys}
 use Rattle.itip_writing.specs.Stamping.{IsEqualRevision, IsLatestOf}
 use Rattle.itip_writing.proofs.CancelCauses.{late_cause, not_removable, overtaken_cause, removal_of, unread_removed}
-use Rattle.itip_writing.proofs.removal.removal_of.Goals as goal
+use Rattle.itip_writing.proofs.removing.removal_of.Goals as goal
 
 pub returns-in_err-item-clause-fault : goal.returns-in_err-item-clause-fault
 returns-in_err-item-clause-fault c =

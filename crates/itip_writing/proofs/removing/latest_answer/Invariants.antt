@@ -2,7 +2,7 @@ use Rattle.std.proofs.Common.{take}
 use Rattle.std.specs.Option.{option_copied}
 use Rattle.itip_writing.specs.Removing.{IsOvertaken, removed_keys}
 use Rattle.itip_writing.specs.Stamping.{IsEqualRevision, IsLatestOf}
-use Rattle.itip_writing.proofs.removal.latest_answer.Given as goal
+use Rattle.itip_writing.proofs.removing.latest_answer.Given as goal
 
 -- the latest of those so far, none of which has a greater sequence
 abbrev pub invariant-loop-line : goal.invariant-loop-line

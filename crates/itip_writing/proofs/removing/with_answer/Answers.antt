@@ -2,7 +2,7 @@ use Rattle.std.proofs.Common.{ap, sym, subst}
 use Rattle.std.specs.Option.{option_copied}
 use Rattle.itip_writing.specs.Removing.{IsNoGreater, with_stamp}
 use Rattle.itip_writing.specs.Stamping.{equal_stamp}
-use Rattle.itip_writing.proofs.removal.with_answer.Goals as goal
+use Rattle.itip_writing.proofs.removing.with_answer.Goals as goal
 
 pub returns-in_default-clause-latest : goal.returns-in_default-clause-latest
 returns-in_default-clause-latest c =

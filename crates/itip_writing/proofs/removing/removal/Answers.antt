@@ -9,7 +9,7 @@ use Rattle.itip_writing.specs.Replying.{IsLacking}
 use Rattle.itip_writing.proofs.CancelAlike.{cannot_remove_there, lacking_there, removing_there}
 use Rattle.itip_writing.proofs.Faults.{if_err_then}
 use Rattle.itip_writing.proofs.UidAlike.{next_in_part, same_part}
-use Rattle.itip_writing.proofs.removal.removal.Goals as goal
+use Rattle.itip_writing.proofs.removing.removal.Goals as goal
 
 pub removal_of-requires : goal.removal_of-requires
 removal_of-requires c =

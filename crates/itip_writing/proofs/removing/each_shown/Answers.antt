@@ -4,7 +4,7 @@ use Rattle.itip_recur.proofs.MappedLists.{Contains-map}
 use Rattle.itip_state.proofs.Members.{none_in}
 use Rattle.itip_writing.specs.Removing.{ShowsAll, ShowsOne}
 use Rattle.itip_writing.proofs.MappedTests.{each_more}
-use Rattle.itip_writing.proofs.removal.each_shown.Goals as goal
+use Rattle.itip_writing.proofs.removing.each_shown.Goals as goal
 
 pub loop-address-init : goal.loop-address-init
 loop-address-init c = λ address h. absurd (none_in address h)

@@ -14,7 +14,7 @@ use Rattle.itip_writing.specs.Removing.{IsOvertaken, removed_keys, with_stamp}
 use Rattle.itip_writing.specs.Stamping.{IsEqualRevision, IsKeptOf, IsLatestOf, equal_stamp}
 use Rattle.itip_writing.proofs.CancelCauses.{if_overtaken}
 use Rattle.itip_writing.proofs.RemovedAnswers.{first_more, first_none, keys_more, latest_more, latest_none, overtaken_by}
-use Rattle.itip_writing.proofs.removal.latest_answer.Goals as goal
+use Rattle.itip_writing.proofs.removing.latest_answer.Goals as goal
 
 pub loop-line-init : goal.loop-line-init
 loop-line-init c = record {

@@ -5,7 +5,7 @@ use Rattle.itip_todo.specs.Table.{attendee_key}
 use Rattle.itip_todo.specs.Properties.{Property}
 use Rattle.itip_writing.specs.Removing.{is_one_of, lines_of}
 use Rattle.itip_writing.proofs.MappedTests.{any_mapped, filter_fail, filter_pass}
-use Rattle.itip_writing.proofs.removal.lines_of.Goals as goal
+use Rattle.itip_writing.proofs.removing.lines_of.Goals as goal
 
 pub loop-line-preserved-then-not-is_one_of : goal.loop-line-preserved-then-not-is_one_of
 loop-line-preserved-then-not-is_one_of c =
