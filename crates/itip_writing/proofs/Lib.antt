@@ -1,6 +1,7 @@
 pub mod Spelt
 pub mod Framing
 pub mod Twins
+pub mod SortedTwins
 pub mod Requested
 pub mod OneRequest
 pub mod RequestStands

@@ -20,6 +20,7 @@ mod reply;
 mod request;
 mod request_laws;
 mod rid;
+mod same_key;
 mod stamping;
 mod version;
 
