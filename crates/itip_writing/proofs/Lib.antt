@@ -36,3 +36,4 @@ pub mod RemovedAnswers
 pub mod CancelCauses
 pub mod EndsTold
 pub mod MappedTests
+pub mod AttendeeKeys

@@ -5,6 +5,7 @@
 
 mod answer;
 mod asked;
+mod attendee_keys;
 mod brief;
 mod cancel;
 mod cancel_laws;

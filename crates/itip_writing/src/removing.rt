@@ -1,22 +1,20 @@
 //! Removing attendees from a to-do or from an instance of it.
 ghost use Rattle.std.specs.Prelude.{◌≡◌, ◌↔◌, ◌∷◌, [], IsTrue, IfOk, OnOk, IfErr, None, false, map};
-ghost use Rattle.std.specs.List.{list_any};
 ghost use Rattle.std.specs.Option.{option_copied};
 ghost use Rattle.std.specs.String.{string_bytes};
-ghost use Rattle.itip_todo.specs.Participation.{same_text};
-ghost use Rattle.itip_todo.specs.Table.{attendee_key};
 ghost use Rattle.itip_items.specs.declared.key.Key.TheVariants as keys;
 ghost use Rattle.itip_report.specs.Organizing.{IsNext};
 ghost use Rattle.itip_view.specs.InQuestion.{NoneInQuestion};
 ghost use Rattle.itip_writing.specs.Cancelling.{IsSent, IsUnread, notice};
 ghost use Rattle.itip_writing.specs.Causes.{IfCause, IfOvertaken, IfUnread};
 ghost use Rattle.itip_writing.specs.Removing.{IsRemoving, CannotRemove, IsRemovable, IsNobody, IsOvertaken, ShowsAll, ShowsEach};
-ghost use Rattle.itip_writing.specs.Removing.{ShowsOne, IsNoGreater, IsGreater, lines_of, removed_keys, with_stamp};
+ghost use Rattle.itip_writing.specs.Removing.{IsNoGreater, IsGreater, lines_of, removed_keys, with_stamp};
 ghost use Rattle.itip_writing.specs.Replying.{IsLacking};
 ghost use Rattle.itip_writing.specs.Stamping.{IsEqualRevision, IsKeptOf, IsLatestOf, equal_stamp};
 
 use crate::NoMemory;
-use crate::asked::{attendee_shown, row_in_question};
+use crate::asked::row_in_question;
+use crate::attendee_keys::{has_key, keys_of, keys_of_shown};
 use crate::brief::BriefTodo;
 use crate::cancel::sent_alone;
 use crate::errand::Message;
@@ -105,7 +103,8 @@ fn removable<'a>(
         (IsNobody items.now.items items.now.uid (option_copied id.entry) (map string_bytes attendees.now)) ⊥ ⊥ ⊥ ⊥ (λ _. ⊥)) }
 {
     let row = row_in_question(alloc, items, id)?;
-    if shows_each(row.attendees.as_slice(), attendees) {
+    let each = shows_each(alloc, row.attendees.as_slice(), attendees)?;
+    if each {
         Ok(row.item)
     } else {
         Err(WritingError::NoSuchAttendee)
@@ -113,35 +112,35 @@ fn removable<'a>(
 }
 
 /// Whether at least one address is given, and each is that of a shown attendee.
-fn shows_each(shown: &[ShownAttendee], attendees: &[String]) -> bool
-    ensures { IsTrue result ↔ ShowsEach shown.now (map string_bytes attendees.now) }
+fn shows_each(
+    alloc: Global,
+    shown: &[ShownAttendee],
+    attendees: &[String],
+) -> Result<bool, NoMemory>
+    ensures { IfOk result (λ each. IsTrue each ↔ ShowsEach shown.now (map string_bytes attendees.now)) }
 {
     if attendees.is_empty() {
-        return false;
+        return Ok(false);
     }
-    each_shown(shown, attendees)
+    each_shown(alloc, shown, attendees)
 }
 
-/// Whether each of these addresses is that of a shown attendee.
-fn each_shown(shown: &[ShownAttendee], attendees: &[String]) -> bool
-    ensures { IsTrue result ↔ ShowsAll shown.now (map string_bytes attendees.now) }
+/// Whether each of these addresses is that of a shown attendee. A program may give any number of them, so each is looked up.
+fn each_shown(
+    alloc: Global,
+    shown: &[ShownAttendee],
+    attendees: &[String],
+) -> Result<bool, NoMemory>
+    ensures { IfOk result (λ each. IsTrue each ↔ ShowsAll shown.now (map string_bytes attendees.now)) }
 {
+    let keys = keys_of_shown(alloc, shown)?;
     for address in attendees {
-        if !is_shown(shown, address.as_str()) {
-            return false;
+        let is_shown = has_key(alloc, &keys, address.as_str())?;
+        if !is_shown {
+            return Ok(false);
         }
     }
-    true
-}
-
-/// Whether an address is that of a shown attendee.
-fn is_shown(shown: &[ShownAttendee], address: &str) -> bool
-    ensures { IsTrue result ↔ ShowsOne shown.now address.now }
-{
-    match attendee_shown(shown, address) {
-        Some(_) => true,
-        None => false,
-    }
+    Ok(true)
 }
 
 /// Copies of those ATTENDEE lines that have one of these addresses, in their order.
@@ -152,24 +151,16 @@ fn lines_of(
 ) -> Result<Vec<Property>, NoMemory>
     ensures { IfOk result (λ found. found.items ≡ lines_of (map string_bytes attendees.now) lines.now) }
 {
+    let keys = keys_of(alloc, attendees)?;
     let mut found = Vec::new(alloc);
     for line in lines {
-        if !is_one_of(line, attendees) {
+        let is_one = has_key(alloc, &keys, line.value())?;
+        if !is_one {
             continue;
         }
         found.push(line.clone()?)?;
     }
     Ok(found)
-}
-
-/// Whether the attendee on a line has one of these addresses.
-fn is_one_of(line: &Property, attendees: &[String]) -> bool
-    ensures { result ≡ list_any (λ address. same_text (attendee_key line.now.value) (attendee_key (string_bytes address))) attendees.now }
-{
-    let value = line.value();
-    attendees
-        .iter()
-        .any(|address| value.eq_ignore_ascii_case(address.as_str()))
 }
 
 /// The latest DTSTAMP among the kept answers with this sequence of the attendees on these lines, or `None` if there are none.

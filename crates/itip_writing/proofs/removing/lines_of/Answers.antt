@@ -1,19 +1,23 @@
 use Rattle.std.proofs.Common.{◌≡◌, ◌∙◌, ◌++◌, ◌∷◌, [], List, ℕ, map, sym, ap, true, false, take_all}
+use Rattle.std.specs.BTreeSet.{contains}
+use Rattle.std.specs.Cmp.Lexicographic.{slice_cmp}
+use Rattle.std.specs.Ordering.{nat_cmp}
 use Rattle.std.specs.String.{string_bytes}
-use Rattle.itip_todo.specs.Participation.{same_text}
 use Rattle.itip_todo.specs.Table.{attendee_key}
 use Rattle.itip_todo.specs.Properties.{Property}
 use Rattle.itip_writing.specs.Removing.{is_one_of, lines_of}
-use Rattle.itip_writing.proofs.MappedTests.{any_mapped, filter_fail, filter_pass}
+use Rattle.itip_writing.proofs.AttendeeKeys.{line_test}
+use Rattle.itip_writing.proofs.MappedTests.{filter_fail, filter_pass}
 use Rattle.itip_writing.proofs.removing.lines_of.Goals as goal
 
-pub loop-line-preserved-then-not-is_one_of : goal.loop-line-preserved-then-not-is_one_of
-loop-line-preserved-then-not-is_one_of c =
+pub loop-line-preserved-then-not-is_one : goal.loop-line-preserved-then-not-is_one
+loop-line-preserved-then-not-is_one c =
     let addresses : List (List ℕ) = map string_bytes c.args.attendees.now in
     let line : Property = c.line-item.result in
     let fails : is_one_of addresses line ≡ false =
-    any_mapped string_bytes (λ (a : List ℕ). same_text (attendee_key line.value) (attendee_key a)) c.args.attendees.now
-    ∙ sym c.is_one_of.ensures ∙ c.if-not-is_one_of.true in
+    line_test string_bytes c.args.attendees.now c.in_ok-keys.keys c.in_ok-keys.ensures line c.in_ok-is_one.is_one
+    (c.in_ok-is_one.ensures ∙ ap (λ (a : List ℕ). contains (slice_cmp nat_cmp) c.in_ok-keys.keys (attendee_key a)) c.value.ensures)
+    ∙ c.if-not-is_one.true in
     c.loop-line.invariant
     ∙ sym (filter_fail (is_one_of addresses) c.args.lines.now c.loop-line.line-index line c.loop-line-test.true c.line-item.is fails)
 
@@ -22,8 +26,9 @@ loop-line-preserved c =
     let addresses : List (List ℕ) = map string_bytes c.args.attendees.now in
     let line : Property = c.line-item.result in
     let passes : is_one_of addresses line ≡ true =
-    any_mapped string_bytes (λ (a : List ℕ). same_text (attendee_key line.value) (attendee_key a)) c.args.attendees.now
-    ∙ sym c.is_one_of.ensures ∙ c.if-not-is_one_of.false in
+    line_test string_bytes c.args.attendees.now c.in_ok-keys.keys c.in_ok-keys.ensures line c.in_ok-is_one.is_one
+    (c.in_ok-is_one.ensures ∙ ap (λ (a : List ℕ). contains (slice_cmp nat_cmp) c.in_ok-keys.keys (attendee_key a)) c.value.ensures)
+    ∙ c.if-not-is_one.false in
     c.in_ok-push.ensures.items
     ∙ ap (λ (l : Property). c.loop-line.found.items ++ l ∷ []) c.in_ok-clone.ensures.cases
     ∙ ap (λ (ls : List Property). ls ++ line ∷ []) c.loop-line.invariant

@@ -13,12 +13,12 @@ returns-in_err-row-clause-fault c =
     rw (p.1, p.2) (none_removable c.args.items.now.items c.args.items.now.uid (option_copied c.args.id)
     (map string_bytes c.args.attendees.now) c.in_err-row.field-0.0 c.in_err-row.ensures.none)
 
-pub returns-then-shows_each-clause-found : goal.returns-then-shows_each-clause-found
-returns-then-shows_each-clause-found c = record {
+pub returns-then-each-clause-found : goal.returns-then-each-clause-found
+returns-then-each-clause-found c = record {
   shown = c.in_ok-row.row.attendees;
   shows = c.in_ok-row.ensures.row;
   each = subst (λ (shown : List ShownAttendee). ShowsEach shown (map string_bytes c.args.attendees.now)) c.as_slice.ensures
-      (c.shows_each.ensures.0 c.if-shows_each.true);
+      (c.in_ok-each.ensures.0 c.if-each.true);
 }
 
 pub returns-clause-fault : goal.returns-clause-fault
@@ -27,7 +27,7 @@ returns-clause-fault c = record {
   shown = c.in_ok-row.row.attendees;
   shows = c.in_ok-row.ensures.row;
   not_each = λ each.
-      let x : true ≡ false = sym (c.shows_each.ensures.1
+      let x : true ≡ false = sym (c.in_ok-each.ensures.1
       (subst (λ (shown : List ShownAttendee). ShowsEach shown (map string_bytes c.args.attendees.now)) (sym c.as_slice.ensures) each))
-      ∙ c.if-shows_each.false in cc;
+      ∙ c.if-each.false in cc;
 }
