@@ -4,7 +4,7 @@ ghost use Rattle.std.specs.Prelude.{◌≢◌, IfErr};
 use crate::error::OfficeError;
 use crate::merge::Merge;
 use crate::pairs::Pairs;
-use crossbeam_channel::Sender;
+use crossbeam_channel::{SendError, Sender};
 use std::alloc::{AllocError, Global};
 use std::mem;
 use std::sync::Wait;
@@ -97,7 +97,8 @@ impl<N: Pairs> Hands<N> {
         };
         match keeper.send(rt, merges) {
             Ok(()) => Ok(()),
-            Err(_) => Err(OfficeError::ChannelClosed),
+            Err(SendError::OutOfMemory(_)) => Err(OfficeError::NoMemory),
+            Err(SendError::Disconnected(_)) => Err(OfficeError::ChannelClosed),
         }
     }
 }

@@ -1,6 +1,7 @@
 //! The loop of a worker.
 ghost use Rattle.std.specs.Prelude.{◌≡◌, ◌≢◌, length, All, IfOk, OnOk, IfErr, IfSome, IsErrOf, option_to_list};
 ghost use Rattle.itip_office.specs.declared.job.Work.TheVariants.{Text, Carry, Look};
+ghost use Rattle.itip_office.specs.Exchanged.{AreNoLoops};
 ghost use Rattle.itip_office.specs.Seen.{IsOneOf, IsAnswered};
 ghost use Rattle.itip_office.specs.Steps.{IsStepOf, HasSeen};
 
@@ -148,7 +149,7 @@ fn step_of<N: Pairs>(
 ) -> Result<(Step, Option<Source<N>>), OfficeError>
     ensures step { IfOk result (λ r. IsStepOf desks work.now r.0) }
     ensures seen { IfOk result (λ r. HasSeen desks (IsOneOf (option_to_list r.1)) work.now r.0) }
-    ensures open { IfErr result (λ e. e ≢ OfficeError.GateClosed) }
+    ensures causes { IfErr result AreNoLoops }
 {
     match work {
         Work::Text { desk, bytes } => {
@@ -162,7 +163,7 @@ fn step_of<N: Pairs>(
 
 fn read_text(alloc: Global, desks: usize, at: u64, bytes: &[u8]) -> Result<Step, OfficeError>
     ensures step { IfOk result (IsStepOf desks (Text at bytes.now)) }
-    ensures open { IfErr result (λ e. e ≢ OfficeError.GateClosed) }
+    ensures causes { IfErr result AreNoLoops }
 {
     let desk = at as usize;
     if desk >= desks {
@@ -184,7 +185,7 @@ fn carry<N: Pairs>(
 ) -> Result<(Step, Option<Source<N>>), OfficeError>
     ensures step { IfOk result (λ r. IsStepOf desks (Carry from to) r.0) }
     ensures seen { IfOk result (λ r. HasSeen desks (IsOneOf (option_to_list r.1)) (Carry from to) r.0) }
-    ensures open { IfErr result (λ e. e ≢ OfficeError.GateClosed) }
+    ensures causes { IfErr result AreNoLoops }
 {
     let (start, end) = (from as usize, to as usize);
     if start >= desks {
@@ -214,7 +215,7 @@ fn look<N: Pairs>(
 ) -> Result<(Step, Option<Source<N>>), OfficeError>
     ensures step { IfOk result (λ r. IsStepOf desks (Look desk window) r.0) }
     ensures seen { IfOk result (λ r. HasSeen desks (IsOneOf (option_to_list r.1)) (Look desk window) r.0) }
-    ensures open { IfErr result (λ e. e ≢ OfficeError.GateClosed) }
+    ensures causes { IfErr result AreNoLoops }
 {
     let place = desk as usize;
     if place >= desks {
@@ -243,7 +244,7 @@ fn refused(refusal: Refusal) -> Step
 // Why a worker ends if a pass fails for anything but too many rows.
 fn error_of(error: PassError) -> OfficeError
     requires { error ≢ PassError.TooManyRows }
-    ensures { result ≢ OfficeError.GateClosed }
+    ensures { AreNoLoops result }
 {
     match error {
         PassError::NoMemory | PassError::NoListMemory => OfficeError::NoMemory,
