@@ -12,10 +12,11 @@ use crate::hands::Hands;
 use crate::job::{Job, Work};
 use crate::merge::Merge;
 use crate::outcome::Outcome;
+use crate::outlet::Outlet;
 use crate::pairs::Pairs;
 use crate::seat::Seat;
 use crate::source::Source;
-use crossbeam_channel::{Receiver, Sender};
+use crossbeam_channel::Receiver;
 use itip_desk::{Batch, Refusal, read_batch};
 use itip_message::ReadError;
 use itip_running::PassError;
@@ -39,19 +40,20 @@ pub(crate) enum Step {
 ///
 /// Ends early if an allocation fails (40), if a keeper isn't there (41), if the gate is closed (42), if a keeper takes nothing more (43),
 /// or if a pass is refused entry or isn't there (45). The seats are dropped at the end.
-pub fn worker_loop<N: Pairs, R: AllocGlobal + Wait, G: Gate>(
+pub fn worker_loop<N: Pairs, R: AllocGlobal + Wait, G: Gate, W: Outlet<Message = Vec<Merge<N>>>>(
     rt: &R,
     desks: usize,
     seats: Vec<Seat<N>>,
     jobs: Receiver<Job>,
-    keepers: Vec<Sender<Vec<Merge<N>>>>,
+    keepers: Vec<W>,
     gate: &G,
 ) -> Result<(Vec<(Job, Outcome)>, Vec<Source<N>>), OfficeError>
     ensures answered { IfOk result (λ r. All (IsAnswered desks (IsOneOf r.1.items)) r.0.items) }
     ensures closed { IsErrOf result OfficeError.GateClosed → G.may_close }
+    ensures ended { IsErrOf result OfficeError.ChannelClosed → W.may_close }
 {
     let mut seats = seats;
-    let mut hands = Hands::new(rt.alloc(), desks, keepers, gate.may_wait())?;
+    let mut hands: Hands<N, W> = Hands::new(rt.alloc(), desks, keepers, gate.may_wait())?;
     let answers = Vec::new(rt.alloc());
     let sources = Vec::new(rt.alloc());
     let mut found = (answers, sources);
@@ -68,11 +70,11 @@ pub fn worker_loop<N: Pairs, R: AllocGlobal + Wait, G: Gate>(
 }
 
 // Takes jobs until their channel is closed, then hands on what is left. Appends what it finds to `found`.
-fn answer_all<N: Pairs, R: AllocGlobal + Wait, G: Gate>(
+fn answer_all<N: Pairs, R: AllocGlobal + Wait, G: Gate, W: Outlet<Message = Vec<Merge<N>>>>(
     rt: &R,
     seats: &mut [Seat<N>],
     desks: usize,
-    hands: &mut Hands<N>,
+    hands: &mut Hands<N, W>,
     jobs: &Receiver<Job>,
     gate: &G,
     found: &mut (Vec<(Job, Outcome)>, Vec<Source<N>>),
@@ -80,6 +82,7 @@ fn answer_all<N: Pairs, R: AllocGlobal + Wait, G: Gate>(
     ensures answered { OnOk result (All (IsAnswered desks (IsOneOf found.old.1.items)) found.old.0.items →
         All (IsAnswered desks (IsOneOf found.new.1.items)) found.new.0.items) }
     ensures closed { IsErrOf result OfficeError.GateClosed → G.may_close }
+    ensures ended { IsErrOf result OfficeError.ChannelClosed → W.may_close }
 {
     for _ in rt.forever() {
         let Ok(job) = jobs.recv(rt) else {
@@ -92,11 +95,11 @@ fn answer_all<N: Pairs, R: AllocGlobal + Wait, G: Gate>(
 }
 
 // Does a job, if the gate lets it through.
-fn answer_one<N: Pairs, R: AllocGlobal + Wait, G: Gate>(
+fn answer_one<N: Pairs, R: AllocGlobal + Wait, G: Gate, W: Outlet<Message = Vec<Merge<N>>>>(
     rt: &R,
     seats: &mut [Seat<N>],
     desks: usize,
-    hands: &mut Hands<N>,
+    hands: &mut Hands<N, W>,
     job: Job,
     gate: &G,
     found: &mut (Vec<(Job, Outcome)>, Vec<Source<N>>),
@@ -104,6 +107,7 @@ fn answer_one<N: Pairs, R: AllocGlobal + Wait, G: Gate>(
     ensures answered { OnOk result (All (IsAnswered desks (IsOneOf found.old.1.items)) found.old.0.items →
         All (IsAnswered desks (IsOneOf found.new.1.items)) found.new.0.items) }
     ensures closed { IsErrOf result OfficeError.GateClosed → G.may_close }
+    ensures ended { IsErrOf result OfficeError.ChannelClosed → W.may_close }
 {
     if !gate.worker(job.number) {
         return Err(OfficeError::GateClosed);
@@ -117,15 +121,16 @@ fn answer_one<N: Pairs, R: AllocGlobal + Wait, G: Gate>(
 
 // The job with its outcome and what it had seen, or `None` if it is handed on. Before a pass looks or carries, what was read so far is
 // handed on.
-fn do_job<N: Pairs, R: AllocGlobal + Wait>(
+fn do_job<N: Pairs, R: AllocGlobal + Wait, W: Outlet<Message = Vec<Merge<N>>>>(
     rt: &R,
     seats: &mut [Seat<N>],
     desks: usize,
-    hands: &mut Hands<N>,
+    hands: &mut Hands<N, W>,
     job: Job,
 ) -> Result<Option<((Job, Outcome), Option<Source<N>>)>, OfficeError>
     ensures answered { IfOk result (λ done. IfSome done (λ d. IsAnswered desks (IsOneOf (option_to_list d.1)) d.0)) }
     ensures open { IfErr result (λ e. e ≢ OfficeError.GateClosed) }
+    ensures ended { IsErrOf result OfficeError.ChannelClosed → W.may_close }
 {
     if job.needs_pass() {
         hands.send_all(rt)?;
