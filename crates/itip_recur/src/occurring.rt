@@ -25,7 +25,7 @@ impl Model for Occurring {
     ghost use Rattle.std.specs.Prelude.{◌↔◌};
     ghost use Rattle.std.specs.List.{Contains};
     ghost use Rattle.itip_moment.specs.declared.moment.Moment.{Moment};
-    ghost use Rattle.itip_recur.specs.declared.series.Series as row;
+    ghost use Rattle.itip_recur.specs.contracts.series.Series as row;
     ghost use Rattle.itip_recur.specs.declared.series.Series.{Series};
     ghost use Rattle.itip_recur.specs.RuleDays.{AreDaysOf};
 

@@ -1,10 +1,9 @@
 //! What is worked out of a rule once, to ask it about many moments.
-ghost use Rattle.std.specs.Prelude.{◌≡◌, ◌↔◌, ◌%◌, ◌<ℤ◌, IsTrue, IfOk};
-ghost use Rattle.itip_moment.specs.Moment.{moment_day};
+ghost use Rattle.std.specs.Prelude.{◌≡◌, ◌↔◌, ◌%◌, IsTrue, IfOk};
 ghost use Rattle.itip_moment.specs.Years.{IsDayNumber};
 ghost use Rattle.itip_recur.specs.Members.{HasTimeOf};
 ghost use Rattle.itip_recur.specs.Pattern.{unit_number, InPattern};
-ghost use Rattle.itip_recur.specs.RuleDays.{IsDaysOf, AreDaysOf, IsLaterMember};
+ghost use Rattle.itip_recur.specs.RuleDays.{IsDaysOf, AreDaysOf, MayRepeat, IsLaterMember};
 ghost use Rattle.itip_recur.specs.Sets.{AreSetsOf};
 
 use crate::NoMemory;
@@ -14,7 +13,6 @@ use crate::pattern::{is_selected, unit_number};
 use crate::rule::Rule;
 use crate::sets::DaySets;
 use itip_moment::Moment;
-use std::cmp::Ordering;
 
 /// The lists of a rule as sets, which units are its own, and the end of the days of its repeats.
 #[derive(Clone, Copy)]
@@ -55,16 +53,26 @@ impl RuleDays {
         requires { IsDaysOf rule.now start.now self.now }
         ensures { IfOk result (λ has. IsTrue has ↔ IsLaterMember rule.now start.now at.now) }
     {
-        let day = at.day();
-        if day <= start.day() || self.end <= day || !is_up_to(&rule.end, at) {
-            return Ok(false);
-        }
-        if !self.has_day(rule, start.day(), day) {
+        if !self.may_repeat(rule, start, at) {
             return Ok(false);
         }
         has_time_of(start, at)
     }
 
+    /// Whether a moment with the start's time of day would be such a repeat.
+    fn may_repeat(&self, rule: &Rule, start: &Moment, at: &Moment) -> bool
+        requires { IsDaysOf rule.now start.now self.now }
+        ensures { IsTrue result ↔ MayRepeat rule.now start.now self.now.end at.now }
+    {
+        let first = start.day();
+        let day = at.day();
+        first < day
+            && day < self.end
+            && is_up_to(&rule.end, at)
+            && self.has_day(rule, first, day)
+    }
+
+    /// Whether a day is in the pattern of the rule.
     fn has_day(&self, rule: &Rule, start: i32, day: i32) -> bool
         requires start_in { IsDayNumber start }
         requires day_in { IsDayNumber day }
@@ -85,8 +93,9 @@ fn has_time_of(start: &Moment, at: &Moment) -> Result<bool, NoMemory>
     Ok(is_same(&moment, at))
 }
 
+/// Whether two moments are the same.
 pub(crate) fn is_same(moment: &Moment, other: &Moment) -> bool
     ensures { IsTrue result ↔ (moment.now ≡ other.now) }
 {
-    moment.cmp(other) == Ordering::Equal
+    moment == other
 }
