@@ -2,6 +2,7 @@
 #![tactic(auto)]
 
 mod answers;
+mod asked_whole;
 mod between;
 mod by_uid;
 mod dates;
