@@ -1,5 +1,5 @@
 -- Moments that are asked of a rule whose days are worked out, and of its series.
-use Rattle.std.proofs.Common.{◌≡◌, ◌↔◌, ◌⊎◌, inl, inr, refl, sym, subst, arith, ◌<ℤ◌, Bool, true, false, IsTrue, Option, Some, None, Result, Ok, Err}
+use Rattle.std.proofs.Common.{◌≡◌, ◌↔◌, ◌⊎◌, inl, inr, refl, arith, ◌<ℤ◌, true, false, IsTrue, Result, Ok, Err}
 use Rattle.std.specs.Prelude.{IfOk}
 use Rattle.std.specs.List.{Contains}
 use Rattle.jiff_core.proofs.SignedLemmas.{signed_arith}
