@@ -9,6 +9,7 @@
 
 mod draft;
 mod filters;
+mod hands;
 mod run;
 mod stream;
 mod tell;

@@ -589,11 +589,13 @@ texts_read changed fit head is (item ∷ items) =
 pub file_messages : (octets : List ℕ) (desk : Shown) (batch : List Item) → TellsDesk octets desk → AscendOctets batch →
     SameItems batch desk.kept → ReadsDelta octets batch
 file_messages octets desk batch tells ascend same = record {
-  messages = messages_of octets;
   given = alone tells.file.items;
-  cut = cut_by_scan octets;
-  read = subst (λ (ts : List (List ℕ)). AreMessages ts (alone tells.file.items)) (sym (told_cut octets desk tells))
-      (texts_read desk.changed (fit octets desk tells) (head_of desk.tick tells.file.items) (is_head octets desk tells) tells.file.items);
+  reads = record {
+    messages = messages_of octets;
+    cut = cut_by_scan octets;
+    read = subst (λ (ts : List (List ℕ)). AreMessages ts (alone tells.file.items)) (sym (told_cut octets desk tells))
+        (texts_read desk.changed (fit octets desk tells) (head_of desk.tick tells.file.items) (is_head octets desk tells) tells.file.items);
+  };
   batch_is = subst (λ (is : List Item). IsItemsOf batch is) (sym (concat_alone tells.file.items)) (record {
     ascend = ascend;
     same = λ item. (

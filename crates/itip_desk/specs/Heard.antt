@@ -10,6 +10,10 @@ abbrev pub heard : List (List Item) → List Item
 heard [] = []
 heard (step ∷ steps) = step ++ heard steps
 
+-- each of these items was heard in one of these steps
+abbrev pub AreHeard : List Item → List (List Item) → Type 0
+AreHeard items steps = (item : Item) → Contains items item → (step : List Item) × Contains steps step × Contains step item
+
 -- a step that moves a UID raises the tick by one, and no other does
 abbrev pub TickStep : List Item → List Item → ℕ → ℕ → Type 0
 TickStep before step tick next = (((uid : List ℕ) × Moves before step uid) × (next ≡ tick + 1)) ⊎

@@ -7,6 +7,7 @@ pub mod Answers
 pub mod Taken
 pub mod Seen
 pub mod Steps
+pub mod Sending
 pub mod Merged
 pub mod Published
 pub mod Pairs

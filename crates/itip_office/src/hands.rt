@@ -1,10 +1,11 @@
 //! What a worker hands on.
-ghost use Rattle.std.specs.Prelude.{◌≢◌, IfErr};
+ghost use Rattle.std.specs.Prelude.{◌≢◌, IfErr, IsErrOf};
 
 use crate::error::OfficeError;
 use crate::merge::Merge;
+use crate::outlet::Outlet;
 use crate::pairs::Pairs;
-use crossbeam_channel::Sender;
+use crossbeam_channel::SendError;
 use std::alloc::{AllocError, Global};
 use std::mem;
 use std::sync::Wait;
@@ -15,22 +16,22 @@ const AT_ONCE: usize = 64;
 /// The channels to the keepers, and for each the merges that wait to be handed on. There is a keeper for each desk, in the order of desks,
 /// then perhaps another for each, and so on.
 #[derive(Drop)]
-pub(crate) struct Hands<N: Pairs> {
+pub(crate) struct Hands<N: Pairs, W> {
     alloc: Global,
     desks: usize,
-    keepers: Vec<Sender<Vec<Merge<N>>>>,
+    keepers: Vec<W>,
     waiting: Vec<Vec<Merge<N>>>,
     most: usize,
 }
 
-impl<N: Pairs> Hands<N> {
+impl<N: Pairs, W: Outlet<Message = Vec<Merge<N>>>> Hands<N, W> {
     /// Nothing waits yet. If the gate may wait, each merge will be handed on by itself.
     pub(crate) fn new(
         alloc: Global,
         desks: usize,
-        keepers: Vec<Sender<Vec<Merge<N>>>>,
+        keepers: Vec<W>,
         may_wait: bool,
-    ) -> Result<Hands<N>, AllocError> {
+    ) -> Result<Hands<N, W>, AllocError> {
         let mut waiting = Vec::new(alloc);
         for _ in 0..keepers.len() {
             waiting.push(Vec::new(alloc))?;
@@ -52,7 +53,8 @@ impl<N: Pairs> Hands<N> {
         desk: usize,
         merge: Merge<N>,
     ) -> Result<(), OfficeError>
-        ensures { IfErr result (λ e. e ≢ OfficeError.GateClosed) }
+        ensures open { IfErr result (λ e. e ≢ OfficeError.GateClosed) }
+        ensures ended { IsErrOf result OfficeError.ChannelClosed → W.may_close }
     {
         let at = self.keeper_of(desk, &merge);
         let Some(waiting) = self.waiting.get_mut(at) else {
@@ -74,7 +76,8 @@ impl<N: Pairs> Hands<N> {
 
     /// Hands on everything that waits.
     pub(crate) fn send_all<R: Wait>(&mut self, rt: &R) -> Result<(), OfficeError>
-        ensures { IfErr result (λ e. e ≢ OfficeError.GateClosed) }
+        ensures open { IfErr result (λ e. e ≢ OfficeError.GateClosed) }
+        ensures ended { IsErrOf result OfficeError.ChannelClosed → W.may_close }
     {
         for at in 0..self.keepers.len() {
             self.send(rt, at)?;
@@ -83,7 +86,8 @@ impl<N: Pairs> Hands<N> {
     }
 
     fn send<R: Wait>(&mut self, rt: &R, at: usize) -> Result<(), OfficeError>
-        ensures { IfErr result (λ e. e ≢ OfficeError.GateClosed) }
+        ensures open { IfErr result (λ e. e ≢ OfficeError.GateClosed) }
+        ensures ended { IsErrOf result OfficeError.ChannelClosed → W.may_close }
     {
         let Some(waiting) = self.waiting.get_mut(at) else {
             return Err(OfficeError::NoPlace);
@@ -95,9 +99,10 @@ impl<N: Pairs> Hands<N> {
         let Some(keeper) = self.keepers.get(at) else {
             return Err(OfficeError::NoPlace);
         };
-        match keeper.send(rt, merges) {
+        match keeper.hand_over(rt, merges) {
             Ok(()) => Ok(()),
-            Err(_) => Err(OfficeError::ChannelClosed),
+            Err(SendError::OutOfMemory(_)) => Err(OfficeError::NoMemory),
+            Err(SendError::Disconnected(_)) => Err(OfficeError::ChannelClosed),
         }
     }
 }

@@ -95,7 +95,8 @@ impl Pass {
         rows
     }
 
-    /// Returns the rows of a window that show the attendee with this address, of a list of published batches as in [`list`](Pass::list).
+    /// Returns the rows of a window that show the attendee with this address, at most 100,000, of a list of published batches as in
+    /// [`list`](Pass::list).
     ///
     /// Fails with [`PassError::TooManyRows`] (31) if more than 100,000 rows show the attendee, and with [`PassError::NoListMemory`] (32)
     /// if an allocation fails; the pass has seen the batches all the same. Fails with [`PassError::NoEntry`] (45) if the pair lets nobody
@@ -103,6 +104,7 @@ impl Pass {
     #[tactic(auto, using(crate::proofs::Groups::prefix_batches))]
     pub fn rows_for(&mut self, window: Window, address: &str) -> Result<Vec<Row>, PassError>
         ensures rows { IfOk result (λ rows. AreRowsWhere (Shows address.now) (heard (seen self.new)) window rows.items) }
+        ensures few { IfOk result (λ rows. length rows.items ≤ row_limit) }
         ensures many { IsErrOf result PassError.TooManyRows → AreTooManyWhere (Shows address.now) (heard (seen self.new)) window }
         ensures causes { IsErrOf result PassError.NoMemory → ⊥ }
         ensures grows { IsPrefix (seen self.old) (seen self.new) }

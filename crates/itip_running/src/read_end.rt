@@ -131,6 +131,7 @@ impl ReadEnd {
         address: &str,
     ) -> (ReadEnd, Result<Vec<Row>, PassError>)
         ensures rows { IfOk result.1 (λ rows. AreRowsWhere (Shows address.now) (heard (reader_seen result.0)) window rows.items) }
+        ensures few { IfOk result.1 (λ rows. length rows.items ≤ row_limit) }
         ensures many { IsErrOf result.1 PassError.TooManyRows
             → AreTooManyWhere (Shows address.now) (heard (reader_seen result.0)) window }
         ensures causes { IsErrOf result.1 PassError.NoMemory → ⊥ }

@@ -9,12 +9,12 @@ ghost use Rattle.itip_view.specs.Standing.{Stands, NoneStands, Rules, NoneRules,
 
 use crate::NoMemory;
 use crate::answers::{AnswerSearch, Questions, in_turn, in_turn_under, only};
+use crate::asked_whole::{AskedWhole, asked_whole, occurs_at};
 use crate::governs::governing_between;
 use crate::keyed_item::KeyedItem;
 use crate::ranges::Ranges;
 use crate::row::ShownAttendee;
 use crate::standing::{if_live, is_live, standing_item};
-use crate::whole::{Whole, occurs_at, whole_of};
 use itip_items::Item;
 use itip_lines::ListOf;
 use itip_moment::Moment;
@@ -31,20 +31,20 @@ pub struct RowInQuestion<'a> {
     pub attendees: ListOf<ShownAttendee>,
 }
 
-/// What answers to a to-do as a whole and to its instances are about. Built once for many questions; one about an instance at which
-/// no item stands lists the occurrences of its day.
+/// What answers to a to-do as a whole and to its instances are about. Built once for many questions; what one about an instance
+/// costs doesn't depend on how long the to-do's recurrence is.
 #[derive(Drop)]
 pub struct InQuestion<'v, 'a> {
     alloc: Global,
     items: &'v ItemsOfUid<'a>,
-    whole: Option<Whole<'a>>,
+    whole: Option<AskedWhole<'a>>,
     ranges: Ranges<'v, 'a>,
 }
 
 impl<'v, 'a> Model for InQuestion<'v, 'a> {
     ghost use Rattle.std.specs.Prelude.{◌≡◌};
     ghost use Rattle.itip_state.specs.OfUid.{UidPart, uid_part_code};
-    ghost use Rattle.itip_view.specs.OfUid.{IsWhole};
+    ghost use Rattle.itip_view.specs.AskedWhole.{IsAsked};
 
     ghost Value = { UidPart };
 
@@ -52,7 +52,7 @@ impl<'v, 'a> Model for InQuestion<'v, 'a> {
 
     ghost view = { λ q. q.items.now };
 
-    ghost invariant = { λ q. IsWhole q.items.now.items q.items.now.uid q.whole × (q.ranges ≡ q.items.now) };
+    ghost invariant = { λ q. IsAsked q.items.now.items q.items.now.uid q.whole × (q.ranges ≡ q.items.now) };
 }
 
 impl<'v, 'a> InQuestion<'v, 'a> {
@@ -60,7 +60,7 @@ impl<'v, 'a> InQuestion<'v, 'a> {
     pub fn of(alloc: Global, items: &'v ItemsOfUid<'a>) -> Result<InQuestion<'v, 'a>, NoMemory>
         ensures { IfOk result (λ question. question ≡ items.now) }
     {
-        let whole = whole_of(alloc, items)?;
+        let whole = asked_whole(alloc, items)?;
         let ranges = Ranges::of(alloc, items)?;
         Ok(InQuestion {
             alloc,
@@ -106,7 +106,7 @@ impl<'v, 'a> InQuestion<'v, 'a> {
         if let Some(instance) = standing_item(self.items, at) {
             return Ok(if_live(Some(instance)));
         }
-        if !occurs_at(self.alloc, &self.whole, at)? {
+        if !occurs_at(&self.whole, at)? {
             return Ok(None);
         }
         Ok(governing_between(self.items, &self.ranges, at))
@@ -172,7 +172,7 @@ impl<'v, 'a> InQuestion<'v, 'a> {
         let Some(whole) = &self.whole else {
             return Ok(None);
         };
-        if !occurs_at(self.alloc, &self.whole, at)? {
+        if !occurs_at(&self.whole, at)? {
             return Ok(None);
         }
         match self.ranges.ruling(at) {

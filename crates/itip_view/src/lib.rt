@@ -2,6 +2,7 @@
 #![tactic(auto)]
 
 mod answers;
+mod asked_whole;
 mod between;
 mod by_uid;
 mod dates;
@@ -48,6 +49,6 @@ pub use row_text::{write_list, write_row};
 pub use standing::{if_live, is_live, stands_beside};
 pub use state_rows::{rows, rows_of};
 pub use std::alloc::AllocError as NoMemory;
-pub use todo_lines::todo_lines_of_rows;
+pub use todo_lines::{rows_have_unbroken_texts, todo_lines_of_rows};
 pub use wanted::{Wanted, is_overdue};
 pub use window::Window;

@@ -1,4 +1,4 @@
-use Rattle.std.proofs.Common.{◌≡◌, ◌∙◌, ◌++◌, ◌∷◌, [], Option, Some, refl, sym, ap, subst, length, true, false, append-nil}
+use Rattle.std.proofs.Common.{◌≡◌, ◌∙◌, ◌++◌, ◌∷◌, [], Option, refl, sym, ap, subst, length, true, false, append-nil}
 use Rattle.std.specs.Prelude.{cond}
 use Rattle.itip_view.specs.ListText.{list_text, row_text}
 use Rattle.itip_view.specs.PutRows.{IsPut}

@@ -5,7 +5,7 @@ use Rattle.itip_moment.specs.declared.moment.Moment.{Moment}
 use Rattle.itip_items.specs.declared.item.Item.{Item}
 use Rattle.itip_state.specs.OfUid.{UidPart}
 use Rattle.itip_view.specs.InQuestion.{IsInQuestion, NoneInQuestion}
-use Rattle.itip_view.specs.OfUid.{IsWhole}
+use Rattle.itip_view.specs.AskedWhole.{IsAsked}
 use Rattle.itip_view.specs.Standing.{Stands, NoneStands, GovernsBetween}
 use Rattle.itip_view.proofs.Asking.{question_standing, question_nowhere, question_between}
 use Rattle.itip_view.proofs.in_question.InQuestion.governing_at.Goals as goal
@@ -27,8 +27,8 @@ returns-then-not-branch c =
     let at : Moment = c.args.at.now in
     let off : c.in_ok-occurs_at.field-0 ≡ false = search rules in
     let none : NoneStands items uid at = subst (λ (p : UidPart). NoneStands p.items p.uid at) c.self.view_is c.in_default.ensures in
-    let whole : IsWhole items uid c.self.inside.whole =
-    subst (λ (p : UidPart). IsWhole p.items p.uid c.self.inside.whole) c.self.view_is c.self.invariant.0 in
+    let whole : IsAsked items uid c.self.inside.whole =
+    subst (λ (p : UidPart). IsAsked p.items p.uid c.self.inside.whole) c.self.view_is c.self.invariant.0 in
     question_nowhere items uid at none (λ o. let x : true ≡ false =
     sym ((c.in_ok-occurs_at.ensures items uid whole).1 o) ∙ off in cc)
 
@@ -39,8 +39,8 @@ returns c =
     let at : Moment = c.args.at.now in
     let on : c.in_ok-occurs_at.field-0 ≡ true = search rules in
     let none : NoneStands items uid at = subst (λ (p : UidPart). NoneStands p.items p.uid at) c.self.view_is c.in_default.ensures in
-    let whole : IsWhole items uid c.self.inside.whole =
-    subst (λ (p : UidPart). IsWhole p.items p.uid c.self.inside.whole) c.self.view_is c.self.invariant.0 in
+    let whole : IsAsked items uid c.self.inside.whole =
+    subst (λ (p : UidPart). IsAsked p.items p.uid c.self.inside.whole) c.self.view_is c.self.invariant.0 in
     question_between items uid at none ((c.in_ok-occurs_at.ensures items uid whole).0 on) (option_copied c.governing_between.result)
     (subst (λ (p : UidPart). MatchOption (option_copied c.governing_between.result) ((g : Item) → ¬ GovernsBetween p.items p.uid at g)
     (GovernsBetween p.items p.uid at)) c.self.view_is c.governing_between.ensures)
