@@ -8,6 +8,8 @@ use Rattle.itip_streams.specs.declared.source_name.SourceName.{SourceName}
 use Rattle.itip_inbox.specs.Compaction.{IsCompaction}
 use Rattle.itip_inbox.specs.Inbox.{AreInputs}
 use Rattle.itip_inbox.specs.Shown.{IsShown}
+use Rattle.itip_desk.specs.Refusals.{number_of_file}
+use Rattle.itip_message.specs.RefusalNumbers.{number_of}
 use Rattle.itip_message.specs.declared.error.MessageRefusal.{MessageRefusal}
 use Rattle.itip_moment.specs.declared.stamp.Stamp.{Stamp}
 use Rattle.itip_world.specs.Running.{IsOutput, WritesRunFront}
@@ -18,6 +20,7 @@ use Rattle.itip_office.specs.declared.error.ScriptError.TheVariants as script
 use Rattle.itip_words.specs.Program.{IsAskedBy, IsNoCall}
 use Rattle.itip_words.specs.declared.filter.Filter.{Filter}
 use Rattle.itip_words.specs.declared.filter.Written.{Written}
+use Rattle.itip_words.specs.declared.filter.Written.TheVariants as written
 use Rattle.itip_words.specs.declared.no_call.NoCall.{NoCall}
 use Rattle.itip_words.specs.declared.streamed.Streamed.{Streamed}
 use Rattle.itip_words.specs.declared.words.Call.{Call}
@@ -28,10 +31,13 @@ use Rattle.itip_app.specs.Status.{status_shown, status_filtered, status_served, 
 use Rattle.itip_app.specs.Streamed.{ServesStream, IsUnserved}
 use Rattle.itip_app.specs.declared.draft.Draft.{Draft}
 use Rattle.itip_app.specs.declared.filters.Outcome.{Outcome}
+use Rattle.itip_app.specs.declared.given.NoWords.{NoWords}
+use Rattle.itip_app.specs.declared.given.NoWords.TheVariants as no_words
 use Rattle.itip_app.specs.declared.stream.Unserved.{Unserved}
 
--- `explains` tells of a flag that a watch was made which says causes if it is set; `tells`, that a refusal was said with its cause if it
--- is set; `works`, that this many threads were asked for; and `shows`, whether it could be said why nothing is run.
+-- `explains` tells with which flag it was asked what a watch is to say: causes if it is set. `tells` tells with which number a refusal was
+-- said, and with which flag: with its cause if that is set. `works` tells how many threads were asked for, `shows` whether it could be
+-- said why nothing is run, and `lacks` why there are no words.
 
 -- ---- a script
 
@@ -99,12 +105,13 @@ pub record FilterComesTo {I : Type 0} (remaining : I → Option (List ℕ)) (wri
         FiltersFront written draft names known inputs old new)
     pub unread : IsErrOf done Read → Keeps old new
 
--- if a draft or a message to be written is refused, that is said with its cause if this flag is set
-abbrev pub TellsRefused : (Bool → Type 0) → Bool → Result Outcome StreamFault → Type 0
-TellsRefused tells why done = IfOk done (λ outcome. (refusal : MessageRefusal) → IsUnreadable outcome.undone refusal → tells why)
+-- a draft or a message to be written that is refused was told by its number, and with its cause if this flag is set
+abbrev pub TellsRefused : (ℕ → Bool → Type 0) → Bool → Result Outcome StreamFault → Type 0
+TellsRefused tells why done =
+    IfOk done (λ outcome. (refusal : MessageRefusal) → IsUnreadable outcome.undone refusal → tells (number_of refusal) why)
 
 -- The status is that of what the filter came to.
-pub record EndsFilter {I : Type 0} (remaining : I → Option (List ℕ)) (tells : Bool → Type 0) (works : Option ℕ → Type 0)
+pub record EndsFilter {I : Type 0} (remaining : I → Option (List ℕ)) (tells : ℕ → Bool → Type 0) (works : Option ℕ → Type 0)
     (filter : Filter) (draft : Draft) (names : List SourceName) (than sources : List I) (old new : Option (List ℕ)) (status : ℕ) : Type 0
   where
     pub worked : works filter.intake.threads
@@ -115,7 +122,7 @@ pub record EndsFilter {I : Type 0} (remaining : I → Option (List ℕ)) (tells 
 
 -- A file was replaced, or there was a fault. Nothing is known of the file; whether a message was refused is what the compaction of the
 -- sources says.
-pub record EndsReplacing {I : Type 0} (remaining : I → Option (List ℕ)) (tells : Bool → Type 0) (works : Option ℕ → Type 0)
+pub record EndsReplacing {I : Type 0} (remaining : I → Option (List ℕ)) (tells : ℕ → Bool → Type 0) (works : Option ℕ → Type 0)
     (filter : Filter) (sources : List I) (status : ℕ) : Type 0
   where
     pub worked : works filter.intake.threads
@@ -125,27 +132,38 @@ pub record EndsReplacing {I : Type 0} (remaining : I → Option (List ℕ)) (tel
     pub told : TellsRefused tells filter.intake.why done
     pub status_is : status ≡ status_filtered done
 
--- Sources that the program opens itself are filtered, in place of a file or to some output; or they can't be opened, and the status is 3.
-pub data EndsSources {I : Type 0} (remaining : I → Option (List ℕ)) (tells : Bool → Type 0) (works : Option ℕ → Type 0)
+-- a file is to be replaced
+abbrev pub ReplacesFile : Written → Type 0
+ReplacesFile (written.Compaction None) = ⊥
+ReplacesFile (written.Compaction (Some name)) = Unit {0}
+ReplacesFile (written.List asked) = ⊥
+ReplacesFile (written.Report asked) = ⊥
+ReplacesFile (written.News than) = ⊥
+ReplacesFile (written.Explanation uid) = ⊥
+ReplacesFile (written.Message asked at) = ⊥
+
+-- Sources that the program opens itself are filtered, in place of a file if one is to be replaced, and else to some output; or they can't
+-- be opened, and the status is 3.
+pub data EndsSources {I : Type 0} (remaining : I → Option (List ℕ)) (tells : ℕ → Bool → Type 0) (works : Option ℕ → Type 0)
     (filter : Filter) (draft : Draft) (status : ℕ) : Type 0
   where
     unopened : status ≡ 3 → EndsSources remaining tells works filter draft status
-    replaced : (sources : List I) → EndsReplacing remaining tells works filter sources status
+    replaced : (sources : List I) → ReplacesFile filter.written → EndsReplacing remaining tells works filter sources status
         → EndsSources remaining tells works filter draft status
-    filtered : (names : List SourceName) (than sources : List I) (old new : Option (List ℕ))
+    filtered : (names : List SourceName) (than sources : List I) (old new : Option (List ℕ)) → ¬ ReplacesFile filter.written
         → EndsFilter remaining tells works filter draft names than sources old new status
         → EndsSources remaining tells works filter draft status
 
 -- A draft was read, or none is asked for, and sources are filtered.
-pub record EndsWithDraft {I : Type 0} (remaining : I → Option (List ℕ)) (explains tells : Bool → Type 0) (works : Option ℕ → Type 0)
-    (filter : Filter) (status : ℕ) : Type 0
+pub record EndsWithDraft {I : Type 0} (remaining : I → Option (List ℕ)) (explains : Bool → Type 0) (tells : ℕ → Bool → Type 0)
+    (works : Option ℕ → Type 0) (filter : Filter) (status : ℕ) : Type 0
   where
     pub explained : explains filter.intake.why
     pub draft : Draft
     pub ends : EndsSources remaining tells works filter draft status
 
 -- The same; or the status is 3, since the draft can't be read, or there is no memory for names.
-abbrev pub EndsFiltered : {I : Type 0} → (I → Option (List ℕ)) → (Bool → Type 0) → (Bool → Type 0) → (Option ℕ → Type 0) →
+abbrev pub EndsFiltered : {I : Type 0} → (I → Option (List ℕ)) → (Bool → Type 0) → (ℕ → Bool → Type 0) → (Option ℕ → Type 0) →
     Filter → ℕ → Type 0
 EndsFiltered remaining explains tells works filter status =
     (status ≡ 3) ⊎ EndsWithDraft remaining explains tells works filter status
@@ -160,20 +178,20 @@ pub record ServingComesTo (holds : List ℕ → Option (List ℕ) → Type 0) (s
     pub unserved : IfErr done (IsUnserved holds streamed input left old new)
 
 -- The status is that of what the serving came to.
-pub record EndsServing (holds : List ℕ → Option (List ℕ) → Type 0) (explains tells : Bool → Type 0) (streamed : Streamed)
-    (input left old new : Option (List ℕ)) (status : ℕ) : Type 0
+pub record EndsServing (holds : List ℕ → Option (List ℕ) → Type 0) (explains : Bool → Type 0) (tells : ℕ → Bool → Type 0)
+    (streamed : Streamed) (input left old new : Option (List ℕ)) (status : ℕ) : Type 0
   where
     pub explained : explains streamed.scripted.why
     pub done : Result Bool Unserved
     pub comes : ServingComesTo holds streamed input left old new done
-    pub told : IfFileRefused done (tells streamed.scripted.why)
+    pub told : IfFileRefused done (λ refusal. tells (number_of_file refusal) streamed.scripted.why)
     pub status_is : status ≡ status_served done
 
 -- ---- all of them
 
 -- The status is that of what was asked for. A filter has its own sources and output: `remaining` is what is left of a source.
-pub data EndsCall {I : Type 0} (holds : List ℕ → Option (List ℕ) → Type 0) (remaining : I → Option (List ℕ))
-    (explains tells : Bool → Type 0) (works : Option ℕ → Type 0) (what : Call) (input left old new : Option (List ℕ)) (status : ℕ) : Type 0
+pub data EndsCall {I : Type 0} (holds : List ℕ → Option (List ℕ) → Type 0) (remaining : I → Option (List ℕ)) (explains : Bool → Type 0)
+    (tells : ℕ → Bool → Type 0) (works : Option ℕ → Type 0) (what : Call) (input left old new : Option (List ℕ)) (status : ℕ) : Type 0
   where
     of_run : (scripted : Scripted) → what ≡ call.Run scripted → EndsRun explains scripted input old new status
         → EndsCall holds remaining explains tells works what input left old new status
@@ -192,9 +210,10 @@ pub data EndsCall {I : Type 0} (holds : List ℕ → Option (List ℕ) → Type 
 abbrev pub AnyFile : List ℕ → Option (List ℕ) → Type 0
 AnyFile name octets = Unit {0}
 
--- What is asked for is done, whatever the program's standard input gives and its standard output holds.
-pub record EndsDone {I : Type 0} (remaining : I → Option (List ℕ)) (explains tells : Bool → Type 0) (works : Option ℕ → Type 0)
-    (what : Call) (status : ℕ) : Type 0
+-- What is asked for is done, with some input and some output: nothing is known here of what standard input gives and standard output
+-- holds. `call_on` says it of every reader and writer.
+pub record EndsDone {I : Type 0} (remaining : I → Option (List ℕ)) (explains : Bool → Type 0) (tells : ℕ → Bool → Type 0)
+    (works : Option ℕ → Type 0) (what : Call) (status : ℕ) : Type 0
   where
     pub input : Option (List ℕ)
     pub left : Option (List ℕ)
@@ -203,13 +222,13 @@ pub record EndsDone {I : Type 0} (remaining : I → Option (List ℕ)) (explains
     pub ends : EndsCall AnyFile remaining explains tells works what input left old new status
 
 -- The same; or the status is 3, since there is no memory for reading.
-abbrev pub EndsCalled : {I : Type 0} → (I → Option (List ℕ)) → (Bool → Type 0) → (Bool → Type 0) → (Option ℕ → Type 0) →
+abbrev pub EndsCalled : {I : Type 0} → (I → Option (List ℕ)) → (Bool → Type 0) → (ℕ → Bool → Type 0) → (Option ℕ → Type 0) →
     Call → ℕ → Type 0
 EndsCalled remaining explains tells works what status = (status ≡ 3) ⊎ EndsDone remaining explains tells works what status
 
 -- The status is that of the call that some words ask for, or of why nothing is run for them.
-pub record EndsWords {I : Type 0} (remaining : I → Option (List ℕ)) (shows : NoCall → Bool → Type 0) (explains tells : Bool → Type 0)
-    (works : Option ℕ → Type 0) (status : ℕ) : Type 0
+pub record EndsWords {I : Type 0} (remaining : I → Option (List ℕ)) (shows : NoCall → Bool → Type 0) (explains : Bool → Type 0)
+    (tells : ℕ → Bool → Type 0) (works : Option ℕ → Type 0) (status : ℕ) : Type 0
   where
     pub words : List (List ℕ)
     pub clock : Option Stamp
@@ -219,8 +238,9 @@ pub record EndsWords {I : Type 0} (remaining : I → Option (List ℕ)) (shows :
     pub called : IfOk what (λ asked. EndsCalled remaining explains tells works asked status)
     pub not_run : IfErr what (λ why. IsStatusOfNoCall (shows why) why status)
 
--- The same; or the words can't be had: the status is 2 if they are no text, and 3 if there is no memory for them.
-abbrev pub EndsProgram : {I : Type 0} → (I → Option (List ℕ)) → (NoCall → Bool → Type 0) → (Bool → Type 0) → (Bool → Type 0) →
-    (Option ℕ → Type 0) → ℕ → Type 0
-EndsProgram remaining shows explains tells works status =
-    (status ≡ 2) ⊎ ((status ≡ 3) ⊎ EndsWords remaining shows explains tells works status)
+-- The same; or there are no words, and the status is 2 if one is no text, and 3 if an allocation failed.
+abbrev pub EndsProgram : {I : Type 0} → (I → Option (List ℕ)) → (NoWords → Type 0) → (NoCall → Bool → Type 0) → (Bool → Type 0) →
+    (ℕ → Bool → Type 0) → (Option ℕ → Type 0) → ℕ → Type 0
+EndsProgram remaining lacks shows explains tells works status =
+    ((status ≡ 2) × lacks no_words.NoText) ⊎ (((status ≡ 3) × lacks no_words.NoMemory) ⊎
+      EndsWords remaining shows explains tells works status)

@@ -7,6 +7,7 @@ use Rattle.itip_app.specs.declared.stream.LoadFault.{LoadFault}
 use Rattle.itip_app.specs.declared.stream.LoadFault.TheVariants as load
 use Rattle.itip_app.specs.declared.stream.Unserved.{Unserved}
 use Rattle.itip_app.specs.declared.stream.Unserved.TheVariants as unserved
+use Rattle.itip_desk.specs.declared.refusal.FileRefusal.{FileRefusal}
 use Rattle.itip_message.specs.declared.error.MessageRefusal.{MessageRefusal}
 use Rattle.itip_words.specs.declared.no_call.NoCall.{NoCall}
 use Rattle.itip_words.specs.declared.no_call.NoCall.TheVariants as no_call
@@ -50,10 +51,10 @@ status_unloaded load.Read = 3
 status_unloaded (load.Refused refusal) = 4
 status_unloaded load.NoMemory = 3
 
--- P if it is refused
-abbrev pub IfRefused : LoadFault → Type 0 → Type 0
+-- P of the refusal, if it is refused
+abbrev pub IfRefused : LoadFault → (FileRefusal → Type 0) → Type 0
 IfRefused load.Read P = Unit {0}
-IfRefused (load.Refused refusal) P = P
+IfRefused (load.Refused refusal) P = P refusal
 IfRefused load.NoMemory P = Unit {0}
 
 abbrev pub status_unserved : Unserved → ℕ
@@ -65,8 +66,8 @@ abbrev pub status_served : Result Bool Unserved → ℕ
 status_served (Ok is_refused) = status_refused is_refused
 status_served (Err why) = status_unserved why
 
--- of a stream: P if the file of a desk is refused
-abbrev pub IfFileRefused : Result Bool Unserved → Type 0 → Type 0
+-- of a stream: P of the refusal, if the file of a desk is refused
+abbrev pub IfFileRefused : Result Bool Unserved → (FileRefusal → Type 0) → Type 0
 IfFileRefused (Ok is_refused) P = Unit {0}
 IfFileRefused (Err (unserved.Load file fault)) P = IfRefused fault P
 IfFileRefused (Err (unserved.Stream fault)) P = Unit {0}

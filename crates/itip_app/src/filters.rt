@@ -7,15 +7,16 @@ ghost use Rattle.itip_inbox.specs.Explaining.{IsExplained};
 ghost use Rattle.itip_inbox.specs.News.{IsNews};
 ghost use Rattle.itip_inbox.specs.OfInbox.{WritesFront};
 ghost use Rattle.itip_inbox.specs.Reports.{IsReport};
+ghost use Rattle.itip_message.specs.RefusalNumbers.{number_of};
 ghost use Rattle.itip_message.specs.declared.error.MessageRefusal.{MessageRefusal};
 ghost use Rattle.itip_app.specs.Status.{status_refused, status_done, status_filtered, IsUnreadable};
 ghost use Rattle.itip_app.specs.Filtered.{octets_in, Writes, WritesList, WritesExplanation, WritesMessage, Filters};
 ghost use Rattle.itip_app.specs.Filtered.{WritesFrontOf, WritesListFront, WritesMessageFront, FiltersFront};
-ghost use Rattle.itip_app.specs.Ended.{EndsFilter, EndsReplacing, EndsSources, EndsFiltered};
+ghost use Rattle.itip_app.specs.Ended.{EndsFilter, EndsReplacing, EndsSources, EndsFiltered, ReplacesFile};
 ghost use Rattle.itip_app.specs.declared.draft.Draft.{Draft};
 
 use crate::draft::{Draft, draft_of};
-use crate::hands::{Hands, Works};
+use crate::thread_count::{ThreadCount, Works};
 use crate::run::{FAULT, Terminals};
 use crate::tell::{Says, Teller, complain, complain_of, complain_refused, warn};
 use itip_inbox::{
@@ -114,7 +115,7 @@ fn status_of<R: AllocGlobal + Says>(
 ) -> u8
     ensures status { result ≡ status_filtered done }
     ensures told { IfOk done (λ outcome. (refusal : MessageRefusal) → IsUnreadable outcome.undone refusal →
-        R.tells rt.now filter.now.intake.why) }
+        R.tells rt.now (number_of refusal) filter.now.intake.why) }
 {
     match done {
         Ok(outcome) => told(rt, &outcome, filter.intake.why),
@@ -199,6 +200,7 @@ fn filter_to<R: AllocGlobal + Input + Says + Files + Works + Sync + 'static, W: 
     writer: &mut W,
     teller: &mut Teller<'_, R>,
 ) -> u8
+    requires { ¬ ReplacesFile filter.now.written }
     ensures { EndsSources ⟦<Source<'static, R, R::Reader> as io::Read>⟧.remaining (R.tells rt.now) (R.works rt.now) filter.now
         draft.now result }
 {
@@ -226,7 +228,7 @@ fn filter_status<R: AllocGlobal + Says + Works + Sync, I: io::Read + Drop, W: io
     ensures { EndsFilter I.remaining (R.tells rt.now) (R.works rt.now) filter.now draft.now names.now than.items sources.items
         (W.contents writer.old) (W.contents writer.new) result }
 {
-    let threads = rt.hands(filter.intake.threads);
+    let threads = rt.thread_count(filter.intake.threads);
     let done = write_filtered(
         rt,
         than,
@@ -250,6 +252,7 @@ fn replace<R: AllocGlobal + Input + Says + Files + Works + Copy + Sync + 'static
     name: &str,
     teller: &mut Teller<'_, R>,
 ) -> u8
+    requires { ReplacesFile filter.now.written }
     ensures { (draft : Draft) → EndsSources ⟦<Source<'static, R, R::Reader> as io::Read>⟧.remaining (R.tells rt.now)
         (R.works rt.now) filter.now draft result }
 {
@@ -269,8 +272,8 @@ fn replace_status<R: AllocGlobal + Says + Files + Works + Copy + Sync, I: io::Re
 ) -> u8
     ensures { EndsReplacing I.remaining (R.tells rt.now) (R.works rt.now) filter.now sources.items result }
 {
-    let hands = rt.hands(filter.intake.threads);
-    let replaced = write_replacement(rt, sources, name, hands, teller);
+    let threads = rt.thread_count(filter.intake.threads);
+    let replaced = write_replacement(rt, sources, name, threads, teller);
     teller.show_progress();
     status_of(rt, filter, replaced, teller.last_opened())
 }
@@ -280,7 +283,7 @@ fn write_replacement<R: AllocGlobal + Files + Threads + Copy + Sync, I: io::Read
     rt: &R,
     sources: Vec<I>,
     name: &str,
-    threads: Hands,
+    threads: ThreadCount,
     watch: &mut S,
 ) -> Result<Outcome, StreamFault>
     ensures { IfOk result (λ outcome. (inputs : List (List ℕ)) → AreInputs I.remaining sources.items inputs →
@@ -303,7 +306,7 @@ fn write_filtered<R: AllocGlobal + Threads + Sync, I: io::Read + Drop, W: io::Wr
     written: &Written,
     draft: &Draft,
     writer: &mut W,
-    threads: Hands,
+    threads: ThreadCount,
     watch: &mut S,
 ) -> Result<Outcome, StreamFault>
     ensures output { IfOk result (λ outcome. (known inputs : List (List ℕ)) →
@@ -332,7 +335,7 @@ fn write_compaction<R: AllocGlobal + Threads + Sync, I: io::Read + Drop, W: io::
     rt: &R,
     sources: Vec<I>,
     writer: &mut W,
-    threads: Hands,
+    threads: ThreadCount,
     watch: &mut S,
 ) -> Result<Outcome, StreamFault>
     ensures output { IfOk result (λ outcome. (inputs : List (List ℕ)) → AreInputs I.remaining sources.items inputs →
@@ -351,7 +354,7 @@ fn write_news<R: AllocGlobal + Threads + Sync, I: io::Read + Drop, W: io::Write,
     than: Vec<I>,
     sources: Vec<I>,
     writer: &mut W,
-    threads: Hands,
+    threads: ThreadCount,
     watch: &mut S,
 ) -> Result<Outcome, StreamFault>
     ensures output { IfOk result (λ outcome. (known inputs : List (List ℕ)) →
@@ -372,7 +375,7 @@ fn write_list<R: AllocGlobal + Threads + Sync, I: io::Read + Drop, W: io::Write,
     sources: Vec<I>,
     writer: &mut W,
     asked: &Listing,
-    threads: Hands,
+    threads: ThreadCount,
     watch: &mut S,
 ) -> Result<Outcome, StreamFault>
     ensures output { IfOk result (λ outcome. (inputs : List (List ℕ)) → AreInputs I.remaining sources.items inputs →
@@ -404,7 +407,7 @@ fn write_form<
     writer: &mut W,
     asked: &Listing,
     form: &F,
-    threads: Hands,
+    threads: ThreadCount,
     watch: &mut S,
 ) -> Result<Outcome, StreamFault>
     ensures output { IfOk result (λ outcome. (inputs : List (List ℕ)) → AreInputs I.remaining sources.items inputs →
@@ -434,7 +437,7 @@ fn write_report<R: AllocGlobal + Threads + Sync, I: io::Read + Drop, W: io::Writ
     sources: Vec<I>,
     writer: &mut W,
     asked: &Reported,
-    threads: Hands,
+    threads: ThreadCount,
     watch: &mut S,
 ) -> Result<Outcome, StreamFault>
     ensures output { IfOk result (λ outcome. (inputs : List (List ℕ)) → AreInputs I.remaining sources.items inputs →
@@ -463,7 +466,7 @@ fn write_explanation<R: AllocGlobal + Threads + Sync, I: io::Read + Drop, W: io:
     sources: Vec<I>,
     writer: &mut W,
     uid: &Uid,
-    threads: Hands,
+    threads: ThreadCount,
     watch: &mut S,
 ) -> Result<Outcome, StreamFault>
     ensures output { IfOk result (λ outcome. (inputs : List (List ℕ)) → AreInputs I.remaining sources.items inputs →
@@ -487,7 +490,7 @@ fn write_message<R: AllocGlobal + Threads + Sync, I: io::Read + Drop, W: io::Wri
     writer: &mut W,
     asked: &Asked,
     at: Stamp,
-    threads: Hands,
+    threads: ThreadCount,
     watch: &mut S,
 ) -> Result<Outcome, StreamFault>
     ensures output { IfOk result (λ outcome. (inputs : List (List ℕ)) → AreInputs I.remaining sources.items inputs →
@@ -519,7 +522,7 @@ fn write_message<R: AllocGlobal + Threads + Sync, I: io::Read + Drop, W: io::Wri
 fn hear_only<R: AllocGlobal + Threads + Sync, I: io::Read + Drop, S: Watch>(
     rt: &R,
     sources: Vec<I>,
-    threads: Hands,
+    threads: ThreadCount,
     watch: &mut S,
 ) -> Result<(), StreamFault> {
     let threads = threads.count();
@@ -555,7 +558,7 @@ fn nothing_done<R: AllocGlobal>(rt: &R, why: Undone) -> Outcome
 /// Says what a message lacks, or why nothing was written, and returns the exit status.
 fn told<R: Says>(rt: &R, outcome: &Outcome, why: bool) -> u8
     ensures status { result ≡ status_done outcome.now.undone outcome.now.is_refused }
-    ensures told { (refusal : MessageRefusal) → IsUnreadable outcome.now.undone refusal → R.tells rt.now why }
+    ensures told { (refusal : MessageRefusal) → IsUnreadable outcome.now.undone refusal → R.tells rt.now (number_of refusal) why }
 {
     if let Some(undone) = outcome.undone {
         return complain_undone(rt, undone, why);
@@ -573,7 +576,7 @@ pub(crate) fn refused_status(is_refused: bool) -> u8
 
 fn complain_undone<R: Says>(rt: &R, undone: Undone, why: bool) -> u8
     ensures status { result ≡ 4 }
-    ensures told { (refusal : MessageRefusal) → IsUnreadable (Some undone) refusal → R.tells rt.now why }
+    ensures told { (refusal : MessageRefusal) → IsUnreadable (Some undone) refusal → R.tells rt.now (number_of refusal) why }
 {
     match undone {
         Undone::Unknown => complain(rt, &"no message about this to-do", NOT_DONE),

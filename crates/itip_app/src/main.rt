@@ -9,10 +9,11 @@
 
 mod draft;
 mod filters;
-mod hands;
+mod given;
 mod run;
 mod stream;
 mod tell;
+mod thread_count;
 
 use run::Terminals;
 use std::io::IsTerminal;

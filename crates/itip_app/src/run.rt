@@ -11,7 +11,8 @@ ghost use Rattle.itip_app.specs.Status.{status_shown, IsStatusOfNoCall};
 ghost use Rattle.itip_app.specs.Ended.{EndsRun, EndsOffice, EndsShowing, EndsCall, EndsCalled, EndsProgram};
 
 use crate::filters::{filtered, refused_status};
-use crate::hands::Works;
+use crate::given::{Gives, NoWords};
+use crate::thread_count::Works;
 use crate::stream::{DeskFiles, Folder, stream};
 use crate::tell::{Explainer, Says, complain};
 use itip_inbox::check;
@@ -22,10 +23,10 @@ use itip_world::{Shelf, run_script_watched};
 use std::alloc::Global;
 use std::fmt::Display;
 use std::io::BufReader;
-use std::rt::{Clock, Env, Files};
+use std::rt::{Clock, Files};
 use std::sync::Wait;
 use std::thread::Threads;
-use std::{env, io};
+use std::io;
 
 const BAD_WORDS: u8 = 2;
 
@@ -43,7 +44,7 @@ pub(crate) struct Terminals {
 /// Runs the program and returns its exit status.
 pub(crate) fn status<
     R: AllocGlobal
-        + Env
+        + Gives
         + Input
         + Says
         + Files
@@ -55,16 +56,13 @@ pub(crate) fn status<
         + Sync
         + 'static,
 >(rt: &R, terminals: Terminals) -> u8
-    ensures { EndsProgram ⟦<Source<'static, R, R::Reader> as io::Read>⟧.remaining (R.shows rt.now) (R.explains rt.now)
-        (R.tells rt.now) (R.works rt.now) result }
+    ensures { EndsProgram ⟦<Source<'static, R, R::Reader> as io::Read>⟧.remaining (R.lacks rt.now) (R.shows rt.now)
+        (R.explains rt.now) (R.tells rt.now) (R.works rt.now) result }
 {
-    let words: Vec<String> = match env::args(rt).map(|words| words.collect(rt.alloc())) {
-        Ok(Ok(words)) => words,
-        Ok(Err(_)) => return complain(rt, &"no memory", FAULT),
-        Err(error) if error.kind() == io::ErrorKind::OutOfMemory => {
-            return complain(rt, &"no memory", FAULT);
-        }
-        Err(_) => return complain(rt, &"bad words", BAD_WORDS),
+    let words = match rt.words() {
+        Ok(words) => words,
+        Err(NoWords::NoText) => return complain(rt, &"bad words", BAD_WORDS),
+        Err(NoWords::NoMemory) => return complain(rt, &"no memory", FAULT),
     };
     done(
         rt,

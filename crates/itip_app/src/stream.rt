@@ -2,6 +2,7 @@
 ghost use Rattle.std.specs.Prelude.{◌≡◌, ◌≢◌, ℕ, List, [], length, Option, Some, None, IfOk, IfErr, IfSome, IfNone, IsErrOf};
 ghost use Rattle.std.specs.List.{Contains};
 ghost use Rattle.itip_desk.specs.DeskFile.{TellsDesk, RefusesFile};
+ghost use Rattle.itip_desk.specs.Refusals.{number_of_file};
 ghost use Rattle.itip_desk.specs.declared.refusal.FileRefusal.{FileRefusal};
 ghost use Rattle.itip_words.specs.Streams.{names_of};
 ghost use Rattle.itip_app.specs.Status.{status_unloaded, status_served, IfRefused, IfFileRefused};
@@ -207,7 +208,7 @@ fn loaded<F: Folder>(alloc: Global, folder: &F, file: &str) -> Result<Desk, Load
 /// Says why a stream was not served to its end, if it wasn't, and returns the exit status.
 fn served<R: AllocGlobal + Says>(rt: &R, done: Result<bool, Unserved<'_>>, why: bool) -> u8
     ensures status { result ≡ status_served done.entry }
-    ensures told { IfFileRefused done.entry (R.tells rt.now why) }
+    ensures told { IfFileRefused done.entry (λ refusal. R.tells rt.now (number_of_file refusal) why) }
 {
     match done {
         Ok(is_refused) => refused_status(is_refused),
@@ -219,7 +220,7 @@ fn served<R: AllocGlobal + Says>(rt: &R, done: Result<bool, Unserved<'_>>, why: 
 /// Says why a desk can't be loaded from its file, and returns the exit status.
 fn complain_unloaded<R: AllocGlobal + Says>(rt: &R, file: &str, fault: LoadFault, why: bool) -> u8
     ensures status { result ≡ status_unloaded fault }
-    ensures told { IfRefused fault (R.tells rt.now why) }
+    ensures told { IfRefused fault (λ refusal. R.tells rt.now (number_of_file refusal) why) }
 {
     let status = unloaded_status(fault);
     let visible = visible_text(rt.alloc(), file);

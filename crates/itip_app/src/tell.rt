@@ -2,6 +2,8 @@
 //! standard error, or has no memory, is left out.
 ghost use Rattle.std.specs.Prelude.{◌≡◌, ℕ, List, Bool, true, false, Some, None, IfOk, OnOk, OnErr};
 ghost use Rattle.std.specs.String.{string_bytes};
+ghost use Rattle.itip_desk.specs.Refusals.{number_of_file};
+ghost use Rattle.itip_message.specs.RefusalNumbers.{number_of};
 ghost use Rattle.itip_words.specs.declared.no_call.NoCall.{NoCall};
 ghost use Rattle.itip_app.specs.Said.{IsRefusedLine};
 
@@ -18,31 +20,30 @@ use std::alloc::{AllocError, Global};
 use std::fmt::Display;
 use std::io;
 
-/// What the program says besides its output. What was said is a relation that a function over every speaker knows nothing about. So one
-/// that ensures it has said it.
+/// What the program says besides its output. Generic code knows nothing of these relations, so a function that ensures one has said it.
 pub(crate) trait Says: Print + Eprint {
     /// Why nothing is run was said, or could not be.
     ghost shows: { Self → NoCall → Bool → Type 0 };
 
-    /// A watch says causes if this flag is set, and none if it isn't.
+    /// It was asked what a watch is to say: causes if this flag is set, and none if it isn't.
     ghost explains: { Self → Bool → Type 0 };
 
-    /// A refusal was said with its cause if this flag is set, and by its number alone if it isn't.
-    ghost tells: { Self → Bool → Type 0 };
+    /// A refusal with this number was said: with its cause if this flag is set, and by its number alone if it isn't.
+    ghost tells: { Self → ℕ → Bool → Type 0 };
 
     /// Prints the help that is asked for, or says what is wrong with the words.
     fn show(&self, why: &NoCall) -> io::Result<()>
         ensures shown { OnOk result (shows self.now why.now true) }
         ensures unshown { OnErr result (shows self.now why.now false) };
 
-    /// What a watch is to say, where causes are asked for or not.
+    /// Whether a watch is to say causes.
     fn causes(&self, are_asked: bool) -> Causes
         ensures known { explains self.now are_asked }
         ensures flag { result.are_asked ≡ are_asked };
 
     /// Says with which number something is refused, and with `why` for what. It has a name, or is a draft or a message to be written.
     fn tell<T: Display>(&self, name: Option<&str>, number: u32, refusal: &T, why: bool)
-        ensures { tells self.now why };
+        ensures { tells self.now number why };
 }
 
 impl<R: Print + Eprint> Says for R {
@@ -50,7 +51,7 @@ impl<R: Print + Eprint> Says for R {
 
     ghost explains = { λ _ _. Unit {0} };
 
-    ghost tells = { λ _ _. Unit {0} };
+    ghost tells = { λ _ _ _. Unit {0} };
 
     fn show(&self, why: &NoCall) -> io::Result<()> {
         match why {
@@ -314,7 +315,7 @@ pub(crate) fn complain_refused<R: Says>(
     status: u8,
 ) -> u8
     ensures same { result ≡ status }
-    ensures told { R.tells rt.now why }
+    ensures told { R.tells rt.now (number_of refusal) why }
 {
     rt.tell(None, refusal.number(), &refusal, why);
     status
@@ -337,7 +338,7 @@ pub(crate) fn complain_of_file<R: Says>(
     status: u8,
 ) -> u8
     ensures same { result ≡ status }
-    ensures told { R.tells rt.now why }
+    ensures told { R.tells rt.now (number_of_file refusal) why }
 {
     rt.tell(Some(name), refusal.number(), &refusal, why);
     status

@@ -161,7 +161,7 @@ impl<'v, 'a, 't> Fates<'v, 'a, 't> {
         requires { IsSound self.now }
         ensures { IfOk result (IsAnswerFate (told_to self.now) self.now.question.uid id.now attendee.now item.now) }
     {
-        match self.question.governing(id.as_ref())? {
+        match self.question.governing(id.as_ref()) {
             Some(governing) => Ok(self.fate_under(governing, item, id, attendee)),
             None => Ok(Fate::AboutNothing),
         }

@@ -14,8 +14,8 @@ use std::thread::Threads;
 const LEAST: usize = 16_384;
 
 /// Returns the result of [`read_message`] for each text, in their order. The texts are shared among threads, at most two for each
-/// processor, whether they are many or few but long: a thread gets so many of them that they would have at least 16,384 bytes if all
-/// texts had the same length.
+/// processor, whether they are many or few but long: if all have the same length, each thread gets about 16,384 bytes or more, at
+/// least 8,192.
 ///
 /// If an allocation fails while a text is read, its own result is that error, and the others are unaffected. Returns [`AllocError`]
 /// if any other allocation fails.
@@ -41,7 +41,7 @@ pub fn read_all(
         .collect(rt, alloc)
 }
 
-// How many texts have the fewest bytes that are worth a thread, if all have the same length; all of them if they are empty.
+// About how many texts have the fewest bytes that are worth a thread, if all have the same length; all of them if they are empty.
 fn least_share(texts: &[Vec<u8>]) -> usize {
     let mut octets = 0usize;
     for text in texts {

@@ -1,6 +1,5 @@
 -- Moments that are asked of a rule whose days are worked out, and of its series.
-use Rattle.std.proofs.Common.{◌≡◌, ◌↔◌, ◌⊎◌, inl, inr, refl, arith, ◌<ℤ◌, true, false, IsTrue, Result, Ok, Err}
-use Rattle.std.specs.Prelude.{IfOk}
+use Rattle.std.proofs.Common.{◌≡◌, ◌∙◌, ◌↔◌, ◌⊎◌, inl, inr, refl, sym, arith, ◌<ℤ◌, Bool, true, false, IsTrue}
 use Rattle.std.specs.List.{Contains}
 use Rattle.jiff_core.proofs.SignedLemmas.{signed_arith}
 use Rattle.itip_moment.specs.declared.moment.Moment.{Moment}
@@ -12,10 +11,9 @@ use Rattle.itip_recur.specs.Members.{HasTimeOf, IsRepeat, IsCandidate, IsWithinE
 use Rattle.itip_recur.specs.RuleDays.{IsDaysOf, MayRepeat, IsLaterMember}
 use Rattle.itip_recur.proofs.Moments.{moment_day-in_years}
 
--- what holds of the value holds in another form
-pub if_ok_like : {T E : Type 0} (P Q : T → Type 0) (r : Result T E) → ((x : T) → P x → Q x) → IfOk r P → IfOk r Q
-if_ok_like P Q (Ok x) like p = like x p
-if_ok_like P Q (Err e) like p = p
+-- what a test that says no tells
+pub not_so : {P : Type 0} {b : Bool} → (IsTrue b ↔ P) → b ≡ false → P → ⊥
+not_so is off p = let x : true ≡ false = sym (is.1 p) ∙ off in absurd (cc)
 
 pub never : (P : Type 0) → (P → ⊥) → IsTrue false ↔ P
 never P not = (λ t. let x : false ≡ true = t in absurd (cc), λ p. absurd (not p))

@@ -9,8 +9,8 @@ use Rattle.itip_recur.specs.Pattern.{unit_number, InPattern}
 use Rattle.itip_recur.specs.Sets.{AreSetsOf}
 use Rattle.itip_recur.specs.Walk.{IsUpTo}
 
--- the sets are those of the rule's lists, the residue is that of its own units, and of its repeats in the calendar those before the end
--- that UNTIL leaves are within its end
+-- the sets are those of the rule's lists, and the residue is that of the rule's own units; a repeat is in the calendar and within the end
+-- of the rule exactly if it is before this end and UNTIL leaves it
 pub record IsDaysOf (rule : Rule) (start : Moment) (days : RuleDays) : Type 0 where
   pub sets : AreSetsOf rule.frequency days.sets
   pub residue : days.residue ≡ unit_number rule.frequency rule.week_start (moment_day start) % rule.interval
@@ -23,7 +23,7 @@ AreDaysOf None start days = days ≡ None
 AreDaysOf (Some rule) start None = ⊥
 AreDaysOf (Some rule) start (Some days) = IsDaysOf rule start days
 
--- a later day of the pattern, before this one, to which UNTIL leaves the moment
+-- the moment is on a later day of the pattern, before `end`, and UNTIL leaves it
 pub record MayRepeat (rule : Rule) (start : Moment) (end : ℤ) (m : Moment) : Type 0 where
   pub later : moment_day start <ℤ moment_day m
   pub before_end : moment_day m <ℤ end

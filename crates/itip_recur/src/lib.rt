@@ -7,7 +7,8 @@
 //!
 //! [`occurrences`] makes sets of a rule's lists first, so that a day costs the same however long they are. A window far from
 //! the start costs nothing for the occurrences before it; with COUNT it costs at most one step for each month before it, of
-//! which at most some thirty are walked through day by day.
+//! which at most some thirty are walked through day by day. Making an [`Occurring`] sorts RDATE and, with COUNT, finds the end of the
+//! rule, at most a step for each month up to it or to the year 9999; a question then costs two binary searches and no memory.
 #![tactic(auto)]
 
 mod ascending;

@@ -53,38 +53,34 @@ impl Occurring {
         })
     }
 
-    /// Whether the series has an occurrence at a moment. Fails only when out of memory.
-    pub fn has(&self, at: &Moment) -> Result<bool, NoMemory>
-        ensures { IfOk result (λ has. IsTrue has ↔ Occurs self.now at.now) }
+    /// Whether the series has an occurrence at a moment.
+    pub fn has(&self, at: &Moment) -> bool
+        ensures { IsTrue result ↔ Occurs self.now at.now }
     {
         if self.series.is_excluded(at) {
-            return Ok(false);
+            return false;
         }
         if self.rdates.has(at) {
-            return Ok(true);
+            return true;
         }
         has_member(&self.series.rule, &self.days, &self.series.start, at)
     }
 }
 
 /// Whether a moment is a member of a rule, of which the days are worked out.
-fn has_member(
-    rule: &Option<Rule>,
-    days: &Option<RuleDays>,
-    start: &Moment,
-    at: &Moment,
-) -> Result<bool, NoMemory>
+fn has_member(rule: &Option<Rule>, days: &Option<RuleDays>, start: &Moment, at: &Moment) -> bool
     requires { AreDaysOf rule.now start.now days.now }
-    ensures { IfOk result (λ has. IsTrue has ↔ IsRuleMember rule.now start.now at.now) }
+    ensures { IsTrue result ↔ IsRuleMember rule.now start.now at.now }
 {
     if is_same(at, start) {
-        return Ok(is_member(rule, start));
+        return is_member(rule, start);
     }
     let Some(rule) = rule else {
-        return Ok(false);
+        return false;
     };
+    // There are days wherever there is a rule, so this never returns.
     let Some(days) = days else {
-        return Ok(false);
+        return false;
     };
     days.repeats(rule, start, at)
 }

@@ -32,12 +32,7 @@ pub(crate) fn in_pattern(rule: &Rule, start: i32, day: i32) -> bool
 {
     let interval = rule.interval as u32;
     unit_number(rule, day) % interval == unit_number(rule, start) % interval
-        && is_selected(
-            &rule.frequency,
-            &DaySets::of(&rule.frequency),
-            start,
-            day,
-        )
+        && is_selected(&rule.frequency, &DaySets::of(&rule.frequency), start, day)
 }
 
 pub(crate) fn unit_number(rule: &Rule, day: i32) -> u32

@@ -1,14 +1,14 @@
 //! What is worked out of a rule once, to ask it about many moments.
-ghost use Rattle.std.specs.Prelude.{◌≡◌, ◌↔◌, ◌%◌, IsTrue, IfOk};
+ghost use Rattle.std.specs.Prelude.{◌≡◌, ◌↔◌, ◌%◌, ◌<ℤ◌, IsTrue};
+ghost use Rattle.itip_moment.specs.Moment.{moment_day};
 ghost use Rattle.itip_moment.specs.Years.{IsDayNumber};
 ghost use Rattle.itip_recur.specs.Members.{HasTimeOf};
 ghost use Rattle.itip_recur.specs.Pattern.{unit_number, InPattern};
 ghost use Rattle.itip_recur.specs.RuleDays.{IsDaysOf, AreDaysOf, MayRepeat, IsLaterMember};
 ghost use Rattle.itip_recur.specs.Sets.{AreSetsOf};
 
-use crate::NoMemory;
 use crate::calendar::CALENDAR_END;
-use crate::members::{end_of_days, is_up_to, on_day};
+use crate::members::{end_of_days, is_up_to};
 use crate::pattern::{is_selected, unit_number};
 use crate::rule::Rule;
 use crate::sets::DaySets;
@@ -33,7 +33,7 @@ impl RuleDays {
         }
     }
 
-    /// Those of the rule of a series, if it has one.
+    /// The same for the rule of a series; `None` if it has none.
     pub(crate) fn of_series(rule: &Option<Rule>, start: &Moment) -> Option<RuleDays>
         ensures { AreDaysOf rule.now start.now result }
     {
@@ -44,32 +44,28 @@ impl RuleDays {
     }
 
     /// Whether a moment is a repeat of the rule and within its end.
-    pub(crate) fn repeats(
-        &self,
-        rule: &Rule,
-        start: &Moment,
-        at: &Moment,
-    ) -> Result<bool, NoMemory>
+    pub(crate) fn repeats(&self, rule: &Rule, start: &Moment, at: &Moment) -> bool
         requires { IsDaysOf rule.now start.now self.now }
-        ensures { IfOk result (λ has. IsTrue has ↔ IsLaterMember rule.now start.now at.now) }
+        ensures { IsTrue result ↔ IsLaterMember rule.now start.now at.now }
     {
-        if !self.may_repeat(rule, start, at) {
-            return Ok(false);
-        }
-        has_time_of(start, at)
+        self.may_repeat(rule, start, at) && has_time_of(start, at)
     }
 
-    /// Whether a moment with the start's time of day would be such a repeat.
+    /// Whether a moment is such a repeat if it has the start's form, zone and time of day.
     fn may_repeat(&self, rule: &Rule, start: &Moment, at: &Moment) -> bool
         requires { IsDaysOf rule.now start.now self.now }
         ensures { IsTrue result ↔ MayRepeat rule.now start.now self.now.end at.now }
     {
-        let first = start.day();
-        let day = at.day();
-        first < day
-            && day < self.end
+        self.is_between(start, at)
             && is_up_to(&rule.end, at)
-            && self.has_day(rule, first, day)
+            && self.has_day(rule, start.day(), at.day())
+    }
+
+    /// Whether a moment is on a day after the start's and before the end.
+    fn is_between(&self, start: &Moment, at: &Moment) -> bool
+        ensures { IsTrue result ↔ (moment_day start.now <ℤ moment_day at.now) × (moment_day at.now <ℤ self.now.end) }
+    {
+        start.day() < at.day() && at.day() < self.end
     }
 
     /// Whether a day is in the pattern of the rule.
@@ -86,11 +82,15 @@ impl RuleDays {
 }
 
 /// Whether a moment has the form, the time of day and the zone of another.
-fn has_time_of(start: &Moment, at: &Moment) -> Result<bool, NoMemory>
-    ensures { IfOk result (λ has. IsTrue has ↔ HasTimeOf start.now at.now) }
+fn has_time_of(start: &Moment, at: &Moment) -> bool
+    ensures { IsTrue result ↔ HasTimeOf start.now at.now }
 {
-    let moment = on_day(start, at.day())?;
-    Ok(is_same(&moment, at))
+    match (start, at) {
+        (Moment::Zoned(zone, first), Moment::Zoned(other, second)) => {
+            first.second == second.second && zone.as_str() == other.as_str()
+        }
+        _ => start.form() == at.form() && start.second() == at.second(),
+    }
 }
 
 /// Whether two moments are the same.

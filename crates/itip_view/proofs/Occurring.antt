@@ -12,7 +12,7 @@ use Rattle.itip_recur.proofs.OneSeries.{series_one}
 use Rattle.itip_items.specs.declared.item.Item.{Item}
 use Rattle.itip_items.specs.declared.key.Key.TheVariants as key
 use Rattle.itip_state.proofs.Members.{none_in}
-use Rattle.itip_view.specs.AskedWhole.{AreOccurring, IsOccurringOf}
+use Rattle.itip_view.specs.OccurringWhole.{AreOccurring, IsOccurringOf}
 use Rattle.itip_view.specs.InQuestion.{OccursAt}
 use Rattle.itip_view.specs.OfUid.{IsWhole, IsOccurrence, AreOccurrencesOf}
 use Rattle.itip_view.specs.declared.whole.Whole.{Whole}
@@ -80,9 +80,9 @@ module _ (heard : List Item) (uid : List ℕ) (at : Moment) where
 
 module _ (heard : List Item) (uid : List ℕ) (whole : Whole) where
   -- a to-do occurs where the series of its shape does
-  pub asked_occurs : (found : Option Series) → IsOccurringOf whole.shape found → IsWhole heard uid (Some whole) →
+  pub shape_occurs : (found : Option Series) → IsOccurringOf whole.shape found → IsWhole heard uid (Some whole) →
       AreOccurring heard uid found
-  asked_occurs found of is = by_shape whole.shape refl found of
+  shape_occurs found of is = by_shape whole.shape refl found of
     where
       by_shape : (s : Shape) → whole.shape ≡ s → (found : Option Series) → IsOccurringOf s found → AreOccurring heard uid found
       by_shape shape.Single e None of = λ at. single_not heard uid at whole e is

@@ -21,5 +21,5 @@ pub mod Most
 pub mod ByUid
 pub mod RowDays
 pub mod InQuestion
-pub mod AskedWhole
+pub mod OccurringWhole
 pub mod OfKept

@@ -2,7 +2,6 @@
 #![tactic(auto)]
 
 mod answers;
-mod asked_whole;
 mod between;
 mod by_uid;
 mod dates;
@@ -14,6 +13,7 @@ mod keyed_item;
 mod laws;
 mod list_text;
 mod most;
+mod occurring_whole;
 mod of_uid;
 mod progress;
 mod ranges;

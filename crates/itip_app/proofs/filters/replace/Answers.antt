@@ -1,8 +1,0 @@
-use Rattle.itip_app.specs.Ended.EndsSources.{unopened, replaced}
-use Rattle.itip_app.proofs.filters.replace.Goals as goal
-
-pub returns-in_default : goal.returns-in_default
-returns-in_default g c = λ draft. unopened c.complain.ensures
-
-pub returns : goal.returns
-returns g c = λ draft. replaced _ c.replace_status.ensures

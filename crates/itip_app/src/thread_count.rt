@@ -5,13 +5,13 @@ use itip_words::MAX_THREADS;
 use rayon::current_num_threads;
 use std::thread::Threads;
 
-/// The threads on which sources are read. Only [`Works::hands`] makes it.
+/// How many threads read sources. Only [`Works::thread_count`] makes it.
 #[derive(Clone, Copy)]
-pub(crate) struct Hands {
+pub(crate) struct ThreadCount {
     count: usize,
 }
 
-impl Hands {
+impl ThreadCount {
     pub(crate) fn count(self) -> usize
         ensures { result ≡ self.count }
     {
@@ -19,14 +19,13 @@ impl Hands {
     }
 }
 
-/// What threads run on. What was asked of it is a relation that a function over every such thing knows nothing about. So one that
-/// ensures it has asked for that.
+/// What threads run on. Generic code knows nothing of `works`, so a function that ensures it has asked for that number.
 pub(crate) trait Works: Threads {
     /// This many threads were asked for, or as many as there are processors.
     ghost works: { Self → Option ℕ → Type 0 };
 
     /// As many as are asked for, or as many as there are processors, at most [`MAX_THREADS`].
-    fn hands(&self, asked: Option<u64>) -> Hands
+    fn thread_count(&self, asked: Option<u64>) -> ThreadCount
         ensures known { works self.now asked }
         ensures count { IfSome asked (λ threads. result.count ≡ threads) };
 }
@@ -34,12 +33,12 @@ pub(crate) trait Works: Threads {
 impl<R: Threads> Works for R {
     ghost works = { λ _ _. Unit {0} };
 
-    fn hands(&self, asked: Option<u64>) -> Hands {
+    fn thread_count(&self, asked: Option<u64>) -> ThreadCount {
         match asked {
-            Some(threads) => Hands {
+            Some(threads) => ThreadCount {
                 count: threads as usize,
             },
-            None => Hands {
+            None => ThreadCount {
                 count: current_num_threads(self).min(MAX_THREADS as usize),
             },
         }

@@ -1,7 +1,7 @@
-//! A to-do as a whole that is asked whether it occurs at many moments.
+//! A to-do as a whole, ready to be asked where it occurs.
 ghost use Rattle.std.specs.Prelude.{◌↔◌, ℕ, List, Some, IfOk, IsTrue};
 ghost use Rattle.itip_items.specs.declared.item.Item.{Item};
-ghost use Rattle.itip_view.specs.AskedWhole.{IsAsked, IsOccurringOf};
+ghost use Rattle.itip_view.specs.OccurringWhole.{IsOccurringWhole, IsOccurringOf};
 ghost use Rattle.itip_view.specs.InQuestion.{OccursAt};
 ghost use Rattle.itip_view.specs.OfUid.{IsWhole};
 
@@ -15,20 +15,20 @@ use std::alloc::Global;
 
 /// The live series item of a UID, and its series ready to be asked, if it repeats.
 #[derive(Drop)]
-pub(crate) struct AskedWhole<'a> {
+pub(crate) struct OccurringWhole<'a> {
     pub(crate) item: &'a Item,
     pub(crate) occurring: Option<Occurring>,
 }
 
 /// The to-do as a whole, ready to be asked; `None` if it is cancelled or not known.
-pub(crate) fn asked_whole<'a>(
+pub(crate) fn occurring_whole<'a>(
     alloc: Global,
     items: &ItemsOfUid<'a>,
-) -> Result<Option<AskedWhole<'a>>, NoMemory>
-    ensures { IfOk result (IsAsked items.now.items items.now.uid) }
+) -> Result<Option<OccurringWhole<'a>>, NoMemory>
+    ensures { IfOk result (IsOccurringWhole items.now.items items.now.uid) }
 {
     match whole_of(alloc, items)? {
-        Some(whole) => Ok(Some(asked(whole)?)),
+        Some(whole) => Ok(Some(ready(whole)?)),
         None => Ok(None),
     }
 }
@@ -43,27 +43,28 @@ fn occurring_of(shape: Shape) -> Result<Option<Occurring>, NoMemory>
     }
 }
 
-fn asked(whole: Whole<'_>) -> Result<AskedWhole<'_>, NoMemory>
-    ensures { IfOk result (λ asked. (heard : List Item) (uid : List ℕ)
-        → IsWhole heard uid (Some whole) → IsAsked heard uid (Some asked)) }
+/// A to-do as a whole, its series ready to be asked.
+fn ready(whole: Whole<'_>) -> Result<OccurringWhole<'_>, NoMemory>
+    ensures { IfOk result (λ ready. (heard : List Item) (uid : List ℕ)
+        → IsWhole heard uid (Some whole) → IsOccurringWhole heard uid (Some ready)) }
 {
     let occurring = occurring_of(whole.shape)?;
-    Ok(AskedWhole {
+    Ok(OccurringWhole {
         item: whole.item,
         occurring,
     })
 }
 
 /// Whether a to-do has an occurrence at a moment; false unless it repeats.
-pub(crate) fn occurs_at(whole: &Option<AskedWhole<'_>>, at: &Moment) -> Result<bool, NoMemory>
-    ensures { IfOk result (λ occurs. (heard : List Item) (uid : List ℕ)
-        → IsAsked heard uid whole.now → IsTrue occurs ↔ OccursAt heard uid at.now) }
+pub(crate) fn occurs_at(whole: &Option<OccurringWhole<'_>>, at: &Moment) -> bool
+    ensures { (heard : List Item) (uid : List ℕ)
+        → IsOccurringWhole heard uid whole.now → IsTrue result ↔ OccursAt heard uid at.now }
 {
     let Some(whole) = whole else {
-        return Ok(false);
+        return false;
     };
     match &whole.occurring {
         Some(occurring) => occurring.has(at),
-        None => Ok(false),
+        None => false,
     }
 }

@@ -1,4 +1,4 @@
--- A to-do as a whole that is asked whether it occurs at many moments (our own form).
+-- A to-do as a whole, ready to be asked where it occurs (our own form).
 use Rattle.std.specs.Prelude.{◌≡◌, ◌↔◌, ℕ, List, Option, Some, None}
 use Rattle.itip_moment.specs.declared.moment.Moment.{Moment}
 use Rattle.itip_items.specs.declared.item.Item.{Item}
@@ -8,7 +8,7 @@ use Rattle.itip_recur.specs.declared.series.Shape.{Shape}
 use Rattle.itip_recur.specs.declared.series.Shape.TheVariants as shape
 use Rattle.itip_view.specs.InQuestion.{OccursAt}
 use Rattle.itip_view.specs.Standing.{IsLiveSeries}
-use Rattle.itip_view.specs.declared.asked_whole.AskedWhole.{AskedWhole}
+use Rattle.itip_view.specs.declared.occurring_whole.OccurringWhole.{OccurringWhole}
 
 -- the to-do of a UID occurs where this series does, or nowhere if there is none
 abbrev pub AreOccurring : List Item → List ℕ → Option Series → Type 0
@@ -22,6 +22,6 @@ IsOccurringOf shape.Opaque found = found ≡ None
 IsOccurringOf (shape.Repeats series) found = found ≡ Some series
 
 -- the live series item of a UID and where its to-do occurs, or no series item is live
-abbrev pub IsAsked : List Item → List ℕ → Option AskedWhole → Type 0
-IsAsked heard uid None = (item : Item) → ¬ IsLiveSeries heard uid item
-IsAsked heard uid (Some whole) = IsLiveSeries heard uid whole.item.now × AreOccurring heard uid whole.occurring
+abbrev pub IsOccurringWhole : List Item → List ℕ → Option OccurringWhole → Type 0
+IsOccurringWhole heard uid None = (item : Item) → ¬ IsLiveSeries heard uid item
+IsOccurringWhole heard uid (Some whole) = IsLiveSeries heard uid whole.item.now × AreOccurring heard uid whole.occurring
