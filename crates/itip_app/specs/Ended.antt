@@ -1,5 +1,5 @@
 -- What each kind of call comes to, and the status that tells it (docs/USING.md; our own rule).
-use Rattle.std.specs.Prelude.{◌≡◌, ◌⊎◌, ℕ, Bool, List, Option, None, Result, IfOk, IfErr, OnErr, IfSome, IsErrOf}
+use Rattle.std.specs.Prelude.{◌≡◌, ◌⊎◌, ℕ, Bool, List, Option, Some, None, Result, Ok, Err, IfOk, IfErr, OnErr, IfSome, IsErrOf}
 use Rattle.std.specs.Io.KnownBytes.{Keeps}
 use Rattle.itip_streams.specs.Written.{AppendsFront, WritesOutput}
 use Rattle.itip_streams.specs.declared.fault.StreamFault.{StreamFault}
@@ -37,7 +37,7 @@ use Rattle.itip_app.specs.declared.stream.Unserved.{Unserved}
 
 -- `explains` tells with which flag it was asked what a watch is to say: causes if it is set. `tells` tells with which number a refusal was
 -- said, and with which flag: with its cause if that is set. `works` tells how many threads were asked for, `shows` whether it could be
--- said why nothing is run, and `lacks` why there are no words.
+-- said why nothing is run, and `gives` which words the program was given, or why none.
 
 -- ---- a script
 
@@ -226,11 +226,12 @@ abbrev pub EndsCalled : {I : Type 0} → (I → Option (List ℕ)) → (Bool →
     Call → ℕ → Type 0
 EndsCalled remaining explains tells works what status = (status ≡ 3) ⊎ EndsDone remaining explains tells works what status
 
--- The status is that of the call that some words ask for, or of why nothing is run for them.
-pub record EndsWords {I : Type 0} (remaining : I → Option (List ℕ)) (shows : NoCall → Bool → Type 0) (explains : Bool → Type 0)
-    (tells : ℕ → Bool → Type 0) (works : Option ℕ → Type 0) (status : ℕ) : Type 0
+-- The status is that of the call that the given words ask for, or of why nothing is run for them.
+pub record EndsWords {I : Type 0} (remaining : I → Option (List ℕ)) (gives : Result (List (List ℕ)) NoWords → Type 0)
+    (shows : NoCall → Bool → Type 0) (explains : Bool → Type 0) (tells : ℕ → Bool → Type 0) (works : Option ℕ → Type 0) (status : ℕ) : Type 0
   where
     pub words : List (List ℕ)
+    pub given : gives (Ok words)
     pub clock : Option Stamp
     pub what : Result Call NoCall
     pub asked : IfOk what (IsAskedBy words clock)
@@ -238,9 +239,9 @@ pub record EndsWords {I : Type 0} (remaining : I → Option (List ℕ)) (shows :
     pub called : IfOk what (λ asked. EndsCalled remaining explains tells works asked status)
     pub not_run : IfErr what (λ why. IsStatusOfNoCall (shows why) why status)
 
--- The same; or there are no words, and the status is 2 if one is no text, and 3 if an allocation failed.
-abbrev pub EndsProgram : {I : Type 0} → (I → Option (List ℕ)) → (NoWords → Type 0) → (NoCall → Bool → Type 0) → (Bool → Type 0) →
-    (ℕ → Bool → Type 0) → (Option ℕ → Type 0) → ℕ → Type 0
-EndsProgram remaining lacks shows explains tells works status =
-    ((status ≡ 2) × lacks no_words.NoText) ⊎ (((status ≡ 3) × lacks no_words.NoMemory) ⊎
-      EndsWords remaining shows explains tells works status)
+-- The same; or no words were given, and the status is 2 if one is no text, and 3 if an allocation failed.
+abbrev pub EndsProgram : {I : Type 0} → (I → Option (List ℕ)) → (Result (List (List ℕ)) NoWords → Type 0) → (NoCall → Bool → Type 0) →
+    (Bool → Type 0) → (ℕ → Bool → Type 0) → (Option ℕ → Type 0) → ℕ → Type 0
+EndsProgram remaining gives shows explains tells works status =
+    ((status ≡ 2) × gives (Err no_words.NoText)) ⊎ (((status ≡ 3) × gives (Err no_words.NoMemory)) ⊎
+    EndsWords remaining gives shows explains tells works status)

@@ -16,9 +16,9 @@ ghost use Rattle.itip_app.specs.Ended.{EndsFilter, EndsReplacing, EndsSources, E
 ghost use Rattle.itip_app.specs.declared.draft.Draft.{Draft};
 
 use crate::draft::{Draft, draft_of};
-use crate::thread_count::{ThreadCount, Works};
 use crate::run::{FAULT, Terminals};
 use crate::tell::{Says, Teller, complain, complain_of, complain_refused, warn};
+use crate::thread_count::{ThreadCount, Works};
 use itip_inbox::{
     CsvList, Explained, JsonList, ListForm, PageList, Sent, TextList, Watch, compact, explain,
     list, news, read_sources, report, send,
@@ -272,8 +272,8 @@ fn replace_status<R: AllocGlobal + Says + Files + Works + Copy + Sync, I: io::Re
 ) -> u8
     ensures { EndsReplacing I.remaining (R.tells rt.now) (R.works rt.now) filter.now sources.items result }
 {
-    let threads = rt.thread_count(filter.intake.threads);
-    let replaced = write_replacement(rt, sources, name, threads, teller);
+    let thread_count = rt.thread_count(filter.intake.threads);
+    let replaced = write_replacement(rt, sources, name, thread_count, teller);
     teller.show_progress();
     status_of(rt, filter, replaced, teller.last_opened())
 }

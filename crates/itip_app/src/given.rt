@@ -1,9 +1,9 @@
 //! The words that the program is given.
-ghost use Rattle.std.specs.Prelude.{IfErr};
+ghost use Rattle.std.specs.Prelude.{List, ℕ, Result, Ok, Err, IfOk, IfErr, map};
+ghost use Rattle.std.specs.String.{string_bytes};
 
-use std::env;
-use std::io;
 use std::rt::Env;
+use std::{env, io};
 
 /// Why the program has no words.
 #[derive(Clone, Copy)]
@@ -14,18 +14,19 @@ pub(crate) enum NoWords {
     NoMemory,
 }
 
-/// What gives the program its words. Generic code knows nothing of `lacks`, so a function that ensures it has asked for them.
+/// What gives the program its words. Generic code knows nothing of `gives`, so a function that ensures it has asked for them.
 pub(crate) trait Gives: AllocGlobal + Env {
-    /// The words can't be had, and this is why.
-    ghost lacks: { Self → NoWords → Type 0 };
+    /// It gave these words, or this is why it gave none.
+    ghost gives: { Self → Result (List (List ℕ)) NoWords → Type 0 };
 
     /// The words of the command line.
     fn words(&self) -> Result<Vec<String>, NoWords>
-        ensures { IfErr result (lacks self.now) };
+        ensures given { IfOk result (λ words. gives self.now (Ok (map string_bytes words.items))) }
+        ensures none { IfErr result (λ why. gives self.now (Err why)) };
 }
 
 impl<R: AllocGlobal + Env> Gives for R {
-    ghost lacks = { λ _ _. Unit {0} };
+    ghost gives = { λ _ _. Unit {0} };
 
     fn words(&self) -> Result<Vec<String>, NoWords> {
         match env::args(self).map(|words| words.collect(self.alloc())) {

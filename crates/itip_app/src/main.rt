@@ -24,5 +24,5 @@ fn main(rt: HostRuntime) -> ExitCode {
         output: rt.stdout().is_terminal(),
         errors: rt.stderr().is_terminal(),
     };
-    ExitCode::from(run::status(&rt, terminals))
+    run::exit_code(&rt, terminals)
 }

@@ -1,6 +1,7 @@
 //! One run of the program: its words, and what they ask for.
 ghost use Rattle.std.specs.Prelude.{◌≡◌, IfOk, IfErr, OnErr, IfSome, IsErrOf};
 ghost use Rattle.std.specs.Io.KnownBytes.{Keeps};
+ghost use Rattle.std.specs.Process.{exit_status};
 ghost use Rattle.itip_streams.specs.Written.{WritesOutput};
 ghost use Rattle.itip_world.specs.Running.{IsOutput, WritesRunFront};
 ghost use Rattle.itip_office.specs.Scripts.{IsScriptOutput, WritesScriptFront};
@@ -12,9 +13,9 @@ ghost use Rattle.itip_app.specs.Ended.{EndsRun, EndsOffice, EndsShowing, EndsCal
 
 use crate::filters::{filtered, refused_status};
 use crate::given::{Gives, NoWords};
-use crate::thread_count::Works;
 use crate::stream::{DeskFiles, Folder, stream};
 use crate::tell::{Explainer, Says, complain};
+use crate::thread_count::Works;
 use itip_inbox::check;
 use itip_office::{ScriptError, run_jobs};
 use itip_streams::{Source, StreamFault};
@@ -22,11 +23,12 @@ use itip_words::{Call, NoCall, Scripted, now, read_words};
 use itip_world::{Shelf, run_script_watched};
 use std::alloc::Global;
 use std::fmt::Display;
+use std::io;
 use std::io::BufReader;
+use std::process::ExitCode;
 use std::rt::{Clock, Files};
 use std::sync::Wait;
 use std::thread::Threads;
-use std::io;
 
 const BAD_WORDS: u8 = 2;
 
@@ -41,8 +43,29 @@ pub(crate) struct Terminals {
     pub(crate) errors: bool,
 }
 
+/// Runs the program and returns how it ends.
+pub(crate) fn exit_code<
+    R: AllocGlobal
+        + Gives
+        + Input
+        + Says
+        + Files
+        + Clock
+        + Works
+        + Wait
+        + Copy
+        + Send
+        + Sync
+        + 'static,
+>(rt: &R, terminals: Terminals) -> ExitCode
+    ensures { EndsProgram ⟦<Source<'static, R, R::Reader> as io::Read>⟧.remaining (R.gives rt.now) (R.shows rt.now)
+        (R.explains rt.now) (R.tells rt.now) (R.works rt.now) (exit_status result) }
+{
+    ExitCode::from(status(rt, terminals))
+}
+
 /// Runs the program and returns its exit status.
-pub(crate) fn status<
+fn status<
     R: AllocGlobal
         + Gives
         + Input
@@ -56,7 +79,7 @@ pub(crate) fn status<
         + Sync
         + 'static,
 >(rt: &R, terminals: Terminals) -> u8
-    ensures { EndsProgram ⟦<Source<'static, R, R::Reader> as io::Read>⟧.remaining (R.lacks rt.now) (R.shows rt.now)
+    ensures { EndsProgram ⟦<Source<'static, R, R::Reader> as io::Read>⟧.remaining (R.gives rt.now) (R.shows rt.now)
         (R.explains rt.now) (R.tells rt.now) (R.works rt.now) result }
 {
     let words = match rt.words() {

@@ -12,7 +12,7 @@ use itip_todo::Uid;
 use itip_view::{Row, Window};
 
 /// The right to read a running desk, on any thread. It never waits. Contracts see the list of published groups of batches that it has
-/// seen, which only grows: what it has seen is always everything up to the end of some publish.
+/// seen, which only grows: what it has seen is always everything up to the end of some call of `publish`, perhaps a refused one.
 #[derive(Drop)]
 pub struct Pass {
     pub(crate) end: Option<ReadEnd>,

@@ -46,7 +46,7 @@ fn occurring_of(shape: Shape) -> Result<Option<Occurring>, NoMemory>
 /// A to-do as a whole, its series ready to be asked.
 fn ready(whole: Whole<'_>) -> Result<OccurringWhole<'_>, NoMemory>
     ensures { IfOk result (λ ready. (heard : List Item) (uid : List ℕ)
-        → IsWhole heard uid (Some whole) → IsOccurringWhole heard uid (Some ready)) }
+        → IsWhole heard uid (Some whole.entry) → IsOccurringWhole heard uid (Some ready)) }
 {
     let occurring = occurring_of(whole.shape)?;
     Ok(OccurringWhole {

@@ -14,12 +14,12 @@ pub returns-in_default : goal.returns-in_default
 returns-in_default c = λ heard uid is. never (OccursAt heard uid c.args.at.now) (λ o. let none : IsOccurringWhole heard uid None =
     subst (λ (w : Option OccurringWhole). IsOccurringWhole heard uid w) c.in_default.is is in none o.item o.live)
 
-pub returns-in-Some : goal.returns-in-Some
-returns-in-Some c = λ heard uid is.
+pub returns-in-Some-occurring : goal.returns-in-Some-occurring
+returns-in-Some-occurring c = λ heard uid is.
     let known : IsOccurringWhole heard uid (Some c.in-Some.whole) =
     subst (λ (w : Option OccurringWhole). IsOccurringWhole heard uid w) c.in-Some.is is in
-    let are : AreOccurring heard uid (Some c.in-Some-2.occurring) =
-    subst (λ (o : Option Series). AreOccurring heard uid o) c.in-Some-2.is known.1 in
+    let are : AreOccurring heard uid (Some c.in-Some-occurring.occurring) =
+    subst (λ (o : Option Series). AreOccurring heard uid o) c.in-Some-occurring.is known.1 in
     let same = are c.args.at.now in
     let so = c.has.ensures in
     (λ t. same.0 (so.0 t), λ o. so.1 (same.1 o))

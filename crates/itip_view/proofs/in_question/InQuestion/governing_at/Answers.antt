@@ -20,8 +20,8 @@ returns-in-Some c =
     subst (λ (found : Option Item). MatchOption found (NoneInQuestion items uid (Some at)) (IsInQuestion items uid (Some at)))
     (sym c.if_live.ensures) (question_standing items uid at c.in-Some.instance.now stands)
 
-pub returns-then-not-branch : goal.returns-then-not-branch
-returns-then-not-branch c =
+pub returns-then-not-occurs_at : goal.returns-then-not-occurs_at
+returns-then-not-occurs_at c =
     let items : List Item = c.args.self.now.items in
     let uid : List ℕ = c.args.self.now.uid in
     let at : Moment = c.args.at.now in

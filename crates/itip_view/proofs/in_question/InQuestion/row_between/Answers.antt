@@ -26,8 +26,8 @@ returns-in_default c =
     (subst (λ (p : UidPart). IsOccurringWhole p.items p.uid c.self.inside.whole) c.self.view_is c.self.invariant.0) in
     question_nowhere items uid c.args.at.now c.requires (none_occurs items uid whole c.args.at.now)
 
-pub returns-then-not-branch : goal.returns-then-not-branch
-returns-then-not-branch c =
+pub returns-then-not-occurs_at : goal.returns-then-not-occurs_at
+returns-then-not-occurs_at c =
     let items : List Item = c.args.self.now.items in
     let uid : List ℕ = c.args.self.now.uid in
     let off : c.occurs_at.result ≡ false = search rules in
