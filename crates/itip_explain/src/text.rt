@@ -50,7 +50,7 @@ fn lines(
 {
     let mut text = Vec::new(alloc);
     for one in fates.told() {
-        let became = fates.fate(&one.item)?;
+        let became = fates.fate(&one.item);
         let line = line_of(alloc, names, one, became)?;
         text.extend_from_slice(line.as_str().as_bytes())?;
     }
