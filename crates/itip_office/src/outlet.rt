@@ -7,6 +7,7 @@ use std::sync::Wait;
 
 /// What a worker sends its merges to. A worker ends with 43 only if a send says that the channel is closed.
 pub trait Outlet: Drop {
+    /// What is sent.
     type Message;
 
     // What holds if a send of this type says that its channel is closed: an absurdity for a type that never says so.

@@ -74,7 +74,7 @@ abbrev pub has_twins : List Todo → Bool
 has_twins [] = false
 has_twins (todo ∷ others) = list_any (is_twin todo) others || has_twins others
 
--- the order in which they stand side by side
+-- an order in which to-dos with the same key are neighbours: by UID, RECURRENCE-ID and RANGE
 abbrev pub twin_cmp : Todo → Todo → Ordering
 twin_cmp todo other =
     ordering_then (ordering_then (slice_cmp nat_cmp todo.uid other.uid) (option_cmp moment_cmp todo.rid other.rid))

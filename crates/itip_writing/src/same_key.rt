@@ -37,7 +37,8 @@ fn are_rising(all: &[&Todo]) -> bool
     all.is_sorted_by(|todo, next| compare(todo, next).is_lt())
 }
 
-/// Compares by UID, RECURRENCE-ID and RANGE, which only the to-do of an instance can have. So to-dos with the same key are equal.
+/// Compares by UID, RECURRENCE-ID and RANGE, which only the to-do of an instance can have. To-dos with the same key compare as equal, and
+/// no others do.
 fn compare(todo: &Todo, other: &Todo) -> Ordering
     ensures { result ≡ twin_cmp todo.now other.now }
 {
