@@ -142,12 +142,12 @@ ReplacesFile (written.News than) = ⊥
 ReplacesFile (written.Explanation uid) = ⊥
 ReplacesFile (written.Message asked at) = ⊥
 
--- Sources that the program opens itself are filtered, in place of a file if one is to be replaced, and else to some output; or they can't
--- be opened, and the status is 3.
+-- Sources of the program are filtered, in place of a file if one is to be replaced, and else to some output; or the status is 3, as it is
+-- if there is no memory for them: the clause doesn't say when.
 pub data EndsSources {I : Type 0} (remaining : I → Option (List ℕ)) (tells : ℕ → Bool → Type 0) (works : Option ℕ → Type 0)
     (filter : Filter) (draft : Draft) (status : ℕ) : Type 0
   where
-    unopened : status ≡ 3 → EndsSources remaining tells works filter draft status
+    unheld : status ≡ 3 → EndsSources remaining tells works filter draft status
     replaced : (sources : List I) → ReplacesFile filter.written → EndsReplacing remaining tells works filter sources status
         → EndsSources remaining tells works filter draft status
     filtered : (names : List SourceName) (than sources : List I) (old new : Option (List ℕ)) → ¬ ReplacesFile filter.written
@@ -162,7 +162,7 @@ pub record EndsWithDraft {I : Type 0} (remaining : I → Option (List ℕ)) (exp
     pub draft : Draft
     pub ends : EndsSources remaining tells works filter draft status
 
--- The same; or the status is 3, since the draft can't be read, or there is no memory for names.
+-- The same; or the status is 3, as it is if the draft can't be read or there is no memory for names: the clause doesn't say when.
 abbrev pub EndsFiltered : {I : Type 0} → (I → Option (List ℕ)) → (Bool → Type 0) → (ℕ → Bool → Type 0) → (Option ℕ → Type 0) →
     Filter → ℕ → Type 0
 EndsFiltered remaining explains tells works filter status =
@@ -197,8 +197,8 @@ pub data EndsCall {I : Type 0} (holds : List ℕ → Option (List ℕ) → Type 
         → EndsCall holds remaining explains tells works what input left old new status
     of_stream : (streamed : Streamed) → what ≡ call.Stream streamed → EndsServing holds explains tells streamed input left old new status
         → EndsCall holds remaining explains tells works what input left old new status
-    of_office : (scripted : Scripted) (workers : ℕ) → what ≡ call.Office scripted workers → EndsOffice explains scripted input old new status
-        → EndsCall holds remaining explains tells works what input left old new status
+    of_office : (scripted : Scripted) (workers : ℕ) → what ≡ call.Office scripted workers
+        → EndsOffice explains scripted input old new status → EndsCall holds remaining explains tells works what input left old new status
     of_check : (why : Bool) → what ≡ call.Check why → EndsShowing explains why input old new status
         → EndsCall holds remaining explains tells works what input left old new status
     of_filter : (asked : Filter) → what ≡ call.Filter asked → EndsFiltered remaining explains tells works asked status
@@ -221,14 +221,15 @@ pub record EndsDone {I : Type 0} (remaining : I → Option (List ℕ)) (explains
     pub new : Option (List ℕ)
     pub ends : EndsCall AnyFile remaining explains tells works what input left old new status
 
--- The same; or the status is 3, since there is no memory for reading.
+-- The same; or the status is 3, as it is if there is no memory for reading: the clause doesn't say when.
 abbrev pub EndsCalled : {I : Type 0} → (I → Option (List ℕ)) → (Bool → Type 0) → (ℕ → Bool → Type 0) → (Option ℕ → Type 0) →
     Call → ℕ → Type 0
 EndsCalled remaining explains tells works what status = (status ≡ 3) ⊎ EndsDone remaining explains tells works what status
 
 -- The status is that of the call that the given words ask for, or of why nothing is run for them.
 pub record EndsWords {I : Type 0} (remaining : I → Option (List ℕ)) (gives : Result (List (List ℕ)) NoWords → Type 0)
-    (shows : NoCall → Bool → Type 0) (explains : Bool → Type 0) (tells : ℕ → Bool → Type 0) (works : Option ℕ → Type 0) (status : ℕ) : Type 0
+    (shows : NoCall → Bool → Type 0) (explains : Bool → Type 0) (tells : ℕ → Bool → Type 0) (works : Option ℕ → Type 0) (status : ℕ)
+    : Type 0
   where
     pub words : List (List ℕ)
     pub given : gives (Ok words)
@@ -239,7 +240,7 @@ pub record EndsWords {I : Type 0} (remaining : I → Option (List ℕ)) (gives :
     pub called : IfOk what (λ asked. EndsCalled remaining explains tells works asked status)
     pub not_run : IfErr what (λ why. IsStatusOfNoCall (shows why) why status)
 
--- The same; or no words were given, and the status is 2 if one is no text, and 3 if an allocation failed.
+-- The same; or the words can't be had: the status is 2 if one is no text, and 3 if an allocation failed.
 abbrev pub EndsProgram : {I : Type 0} → (I → Option (List ℕ)) → (Result (List (List ℕ)) NoWords → Type 0) → (NoCall → Bool → Type 0) →
     (Bool → Type 0) → (ℕ → Bool → Type 0) → (Option ℕ → Type 0) → ℕ → Type 0
 EndsProgram remaining gives shows explains tells works status =

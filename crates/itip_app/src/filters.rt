@@ -1,5 +1,5 @@
 //! The words that read messages: their sources, and what comes of them.
-ghost use Rattle.std.specs.Prelude.{◌≡◌, ℕ, List, [], Some, None, IfOk, OnErr, IfSome, IsErrOf};
+ghost use Rattle.std.specs.Prelude.{◌≡◌, ℕ, List, [], Some, None, IfOk, OnErr, IsErrOf};
 ghost use Rattle.std.specs.Io.KnownBytes.{Keeps};
 ghost use Rattle.itip_inbox.specs.Inbox.{AreInputs};
 ghost use Rattle.itip_inbox.specs.Compaction.{IsCompaction};

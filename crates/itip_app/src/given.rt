@@ -14,7 +14,8 @@ pub(crate) enum NoWords {
     NoMemory,
 }
 
-/// What gives the program its words. Generic code knows nothing of `gives`, so a function that ensures it has asked for them.
+/// What gives the program its words. Generic code knows nothing of `gives`, so a function that ensures it must have asked for the
+/// words.
 pub(crate) trait Gives: AllocGlobal + Env {
     /// It gave these words, or this is why it gave none.
     ghost gives: { Self → Result (List (List ℕ)) NoWords → Type 0 };

@@ -20,7 +20,8 @@ use std::alloc::{AllocError, Global};
 use std::fmt::Display;
 use std::io;
 
-/// What the program says besides its output. Generic code knows nothing of these relations, so a function that ensures one has said it.
+/// What the program says besides its output. Generic code knows nothing of these relations, so a function that ensures one must have made the call
+/// that tells it.
 pub(crate) trait Says: Print + Eprint {
     /// Why nothing is run was said, or could not be.
     ghost shows: { Self → NoCall → Bool → Type 0 };

@@ -19,7 +19,8 @@ impl ThreadCount {
     }
 }
 
-/// What threads run on. Generic code knows nothing of `works`, so a function that ensures it has asked for that number.
+/// What threads run on. Generic code knows nothing of `works`, so a function that ensures it must have asked for that
+/// number.
 pub(crate) trait Works: Threads {
     /// This many threads were asked for, or as many as there are processors.
     ghost works: { Self → Option ℕ → Type 0 };

@@ -14,8 +14,8 @@ use std::thread::Threads;
 const LEAST: usize = 16_384;
 
 /// Returns the result of [`read_message`] for each text, in their order. The texts are shared among threads, at most two for each
-/// processor, whether they are many or few but long: if all have the same length, each thread gets about 16,384 bytes or more, at
-/// least 8,192.
+/// processor, whether they are many or few but long: if all have the same length and there are enough of them, each thread gets more
+/// than 8,192 bytes, about 16,384 or more.
 ///
 /// If an allocation fails while a text is read, its own result is that error, and the others are unaffected. Returns [`AllocError`]
 /// if any other allocation fails.

@@ -78,7 +78,7 @@ fn has_member(rule: &Option<Rule>, days: &Option<RuleDays>, start: &Moment, at: 
     let Some(rule) = rule else {
         return false;
     };
-    // There are days wherever there is a rule, so this never returns.
+    // There are days wherever there is a rule, so this branch never runs.
     let Some(days) = days else {
         return false;
     };

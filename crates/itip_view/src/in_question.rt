@@ -31,8 +31,8 @@ pub struct RowInQuestion<'a> {
     pub attendees: ListOf<ShownAttendee>,
 }
 
-/// What answers to a to-do as a whole and to its instances are about. Built once for many questions, which sorts RDATE and finds the end
-/// of the rule; what a question about an instance costs then doesn't depend on how long the to-do's recurrence is.
+/// What answers to a to-do as a whole and to its instances are about. Built once for many questions: building it sorts RDATE and finds
+/// the end of the rule, and then what a question about an instance costs doesn't depend on how long the to-do's recurrence is.
 #[derive(Drop)]
 pub struct InQuestion<'v, 'a> {
     alloc: Global,
