@@ -1,5 +1,5 @@
 //! The words that read messages: their sources, and what comes of them.
-ghost use Rattle.std.specs.Prelude.{◌≡◌, ℕ, List, [], Some, None, IfOk, OnErr, IsErrOf};
+ghost use Rattle.std.specs.Prelude.{◌≡◌, ℕ, List, [], Some, None, IfOk, OnErr, IsErrOf, MatchOption};
 ghost use Rattle.std.specs.Io.KnownBytes.{Keeps};
 ghost use Rattle.itip_inbox.specs.Inbox.{AreInputs};
 ghost use Rattle.itip_inbox.specs.Compaction.{IsCompaction};
@@ -180,8 +180,8 @@ fn filter_sources<R: AllocGlobal + Input + Says + Files + Works + Copy + Sync + 
     ensures { EndsSources ⟦<Source<'static, R, R::Reader> as io::Read>⟧.remaining (R.tells rt.now) (R.works rt.now) filter.now
         draft.now result }
 {
-    if let Written::Compaction { output: Some(name) } = &filter.written {
-        return replace(rt, named, filter, name.as_str(), teller);
+    if let Some(name) = replaced_file(&filter.written) {
+        return replace(rt, named, filter, name, teller);
     }
     if is_terminal {
         let mut writer = TerminalWriter::new(rt.alloc(), io::writer(rt));
@@ -189,6 +189,21 @@ fn filter_sources<R: AllocGlobal + Input + Says + Files + Works + Copy + Sync + 
     }
     let mut writer = io::writer(rt);
     filter_to(rt, named, filter, draft, &mut writer, teller)
+}
+
+/// The name of the file that is to be replaced, if one is.
+fn replaced_file(written: &Written) -> Option<&str>
+    ensures { MatchOption result (¬ ReplacesFile written.now) (λ _. ReplacesFile written.now) }
+{
+    match written {
+        Written::Compaction { output: Some(name) } => Some(name.as_str()),
+        Written::Compaction { output: None } => None,
+        Written::List(_) => None,
+        Written::Report(_) => None,
+        Written::News { .. } => None,
+        Written::Explanation { .. } => None,
+        Written::Message { .. } => None,
+    }
 }
 
 /// Filters the messages of the named sources, and returns the exit status.
@@ -605,10 +620,10 @@ fn complain_unread<R: AllocGlobal + Eprint>(rt: &R, name: Option<&SourceName>) -
 fn complain_unwritten<R: AllocGlobal + Eprint>(rt: &R, written: &Written) -> u8
     ensures { result ≡ 3 }
 {
-    let Written::Compaction { output: Some(name) } = written else {
+    let Some(name) = replaced_file(written) else {
         return complain(rt, &"write failed", FAULT);
     };
-    match visible_text(rt.alloc(), name.as_str()) {
+    match visible_text(rt.alloc(), name) {
         Ok(name) => complain_of(rt, name.as_str(), "write failed", FAULT),
         Err(_) => complain(rt, &"no memory", FAULT),
     }
