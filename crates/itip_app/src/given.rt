@@ -17,6 +17,8 @@ pub(crate) enum NoWords {
 /// What gives the program its words. Generic code knows nothing of `gives`, so a function that ensures it must have asked for the
 /// words.
 pub(crate) trait Gives: AllocGlobal + Env {
+    ghost use Rattle.itip_app.specs.declared.given.NoWords.{NoWords};
+
     /// It gave these words, or this is why it gave none.
     ghost gives: { Self → Result (List (List ℕ)) NoWords → Type 0 };
 
