@@ -1,5 +1,5 @@
 //! An open read.
-ghost use Rattle.std.specs.Prelude.{◌≡◌, ◌≤◌, length, IfOk, IfErr, IsErrOf};
+ghost use Rattle.std.specs.Prelude.{◌≡◌, ◌≤◌, [], false, length, IfOk, IfErr, IsErrOf, IsOk};
 ghost use Rattle.left_right.specs.Sides.{view};
 ghost use Rattle.itip_state.specs.Kept.{AreKept};
 ghost use Rattle.itip_desk.specs.Heard.{heard};
@@ -65,17 +65,25 @@ impl Look {
         }
     }
 
-    /// The text of the task list in a window. If something is published that the pass has neither seen nor been told of, the keeper is
-    /// active: then only what the list is made of is taken during the read, each item shared, so that the keeper waits for no row.
-    /// Otherwise the list is made here, and nothing is copied.
+    /// Whether a list is made after the read, of shared items: if something is published that the pass has neither seen nor been told of,
+    /// the keeper is active. A desk that keeps nothing has nothing to share.
+    fn is_shared(&self) -> bool
+        ensures { heard (batches_of self.now.front.seen.log) ≡ [] → result ≡ false }
+    {
+        self.is_news && self.desk().state().uid_count() > 0
+    }
+
+    /// The text of the task list in a window. If the items are shared, only what the list is made of is taken during the read, so that the
+    /// keeper waits for no row. Otherwise the list is made here, and nothing is copied.
     pub(crate) fn list(self, window: Window) -> (ReadEnd, Result<Vec<u8>, PassError>)
         ensures text { IfOk result.1 (λ text. IsListText (heard (reader_seen result.0)) window text.items) }
         ensures many { IsErrOf result.1 PassError.TooManyRows → AreTooMany (heard (reader_seen result.0)) window }
         ensures memory { IsErrOf result.1 PassError.NoMemory → ⊥ }
         ensures entry { IsErrOf result.1 PassError.NoEntry → ⊥ }
+        ensures nothing { heard (reader_seen result.0) ≡ [] → IsOk result.1 }
         ensures end { result.0.front.seen ≡ self.front.seen }
     {
-        if !self.is_news {
+        if !self.is_shared() {
             return self.list_here(window);
         }
         let (end, part) = self.part_in(window);
@@ -93,6 +101,7 @@ impl Look {
         ensures many { IsErrOf result.1 PassError.TooManyRows → AreTooMany (heard (reader_seen result.0)) window }
         ensures memory { IsErrOf result.1 PassError.NoMemory → ⊥ }
         ensures entry { IsErrOf result.1 PassError.NoEntry → ⊥ }
+        ensures nothing { heard (reader_seen result.0) ≡ [] → IsOk result.1 }
         ensures end { result.0.front.seen ≡ self.front.seen }
     {
         let list = self.desk().list(window);
@@ -114,9 +123,10 @@ impl Look {
             → AreTooManyWhere (Shows address.now) (heard (reader_seen result.0)) window }
         ensures memory { IsErrOf result.1 PassError.NoMemory → ⊥ }
         ensures entry { IsErrOf result.1 PassError.NoEntry → ⊥ }
+        ensures nothing { heard (reader_seen result.0) ≡ [] → IsOk result.1 }
         ensures end { result.0.front.seen ≡ self.front.seen }
     {
-        if !self.is_news {
+        if !self.is_shared() {
             return self.list_for_here(window, address);
         }
         let (end, part) = self.part_naming(address);
@@ -135,6 +145,7 @@ impl Look {
             → AreTooManyWhere (Shows address.now) (heard (reader_seen result.0)) window }
         ensures memory { IsErrOf result.1 PassError.NoMemory → ⊥ }
         ensures entry { IsErrOf result.1 PassError.NoEntry → ⊥ }
+        ensures nothing { heard (reader_seen result.0) ≡ [] → IsOk result.1 }
         ensures end { result.0.front.seen ≡ self.front.seen }
     {
         let list = self.desk().list_for(window, address);

@@ -1,5 +1,5 @@
 //! A pass, which reads beside the keeper.
-ghost use Rattle.std.specs.Prelude.{◌≡◌, ◌⊎◌, ◌≤◌, length, Some, IsSome, IfOk, IfErr, IsTrue, IsErrOf};
+ghost use Rattle.std.specs.Prelude.{◌≡◌, ◌⊎◌, ◌≤◌, [], length, Some, IsSome, IfOk, IfErr, IsTrue, IsErrOf};
 ghost use mathlib.Core.List.{IsPrefix};
 
 use crate::error::PassError;
@@ -33,13 +33,14 @@ impl Pass {
     /// pass has then seen these batches.
     ///
     /// Fails with [`PassError::TooManyRows`] (31) if there are more than 100,000 rows, and with [`PassError::NoListMemory`] (32) if an
-    /// allocation fails; the pass has seen the batches all the same. Fails with [`PassError::NoEntry`] (45) if the pair lets nobody in or
-    /// shows less than was seen; then the pass has seen nothing more.
+    /// allocation fails; the pass has seen the batches all the same. If they have no item, it can only fail with
+    /// [`PassError::NoEntry`] (45): if the pair lets nobody in or shows less than was seen; then the pass has seen nothing more.
     #[tactic(auto, using(crate::proofs::Groups::prefix_batches))]
     pub fn list(&mut self, window: Window) -> Result<Vec<u8>, PassError>
         ensures text { IfOk result (λ text. IsListText (heard (seen self.new)) window text.items) }
         ensures many { IsErrOf result PassError.TooManyRows → AreTooMany (heard (seen self.new)) window }
         ensures causes { IsErrOf result PassError.NoMemory → ⊥ }
+        ensures nothing { heard (seen self.new) ≡ [] → IfErr result (λ e. e ≡ PassError.NoEntry) }
         ensures grows { IsPrefix (seen self.old) (seen self.new) }
         ensures whole { IsPrefix (publishes_seen self.old) (publishes_seen self.new) }
         ensures no_entry { IsErrOf result PassError.NoEntry → publishes_seen self.new ≡ publishes_seen self.old }
@@ -55,13 +56,14 @@ impl Pass {
     /// [`list`](Pass::list).
     ///
     /// Fails with [`PassError::TooManyRows`] (31) if more than 100,000 rows show the attendee, and with [`PassError::NoListMemory`] (32)
-    /// if an allocation fails; the pass has seen the batches all the same. Fails with [`PassError::NoEntry`] (45) if the pair lets nobody
-    /// in or shows less than was seen; then the pass has seen nothing more.
+    /// if an allocation fails; the pass has seen the batches all the same. If they have no item, it can only fail with
+    /// [`PassError::NoEntry`] (45): if the pair lets nobody in or shows less than was seen; then the pass has seen nothing more.
     #[tactic(auto, using(crate::proofs::Groups::prefix_batches))]
     pub fn list_for(&mut self, window: Window, address: &str) -> Result<Vec<u8>, PassError>
         ensures text { IfOk result (λ text. IsListTextFor address.now (heard (seen self.new)) window text.items) }
         ensures many { IsErrOf result PassError.TooManyRows → AreTooManyWhere (Shows address.now) (heard (seen self.new)) window }
         ensures causes { IsErrOf result PassError.NoMemory → ⊥ }
+        ensures nothing { heard (seen self.new) ≡ [] → IfErr result (λ e. e ≡ PassError.NoEntry) }
         ensures grows { IsPrefix (seen self.old) (seen self.new) }
         ensures whole { IsPrefix (publishes_seen self.old) (publishes_seen self.new) }
         ensures no_entry { IsErrOf result PassError.NoEntry → publishes_seen self.new ≡ publishes_seen self.old }

@@ -1,5 +1,5 @@
 //! A reader's end of the pair, by value.
-ghost use Rattle.std.specs.Prelude.{◌≡◌, ◌⊎◌, ◌≤◌, length, MatchResult, IfOk, IfErr, IsErrOf};
+ghost use Rattle.std.specs.Prelude.{◌≡◌, ◌⊎◌, ◌≤◌, [], length, MatchResult, IfOk, IfErr, IsErrOf};
 ghost use mathlib.Core.List.{IsPrefix};
 ghost use Rattle.left_right.specs.Sides.{view};
 ghost use Rattle.itip_state.specs.Kept.{AreKept};
@@ -78,6 +78,7 @@ impl ReadEnd {
         ensures text { IfOk result.1 (λ text. IsListText (heard (reader_seen result.0)) window text.items) }
         ensures many { IsErrOf result.1 PassError.TooManyRows → AreTooMany (heard (reader_seen result.0)) window }
         ensures causes { IsErrOf result.1 PassError.NoMemory → ⊥ }
+        ensures nothing { heard (reader_seen result.0) ≡ [] → IfErr result.1 (λ e. e ≡ PassError.NoEntry) }
         ensures grows { IsPrefix (reader_groups self) (reader_groups result.0) }
         ensures no_entry { IsErrOf result.1 PassError.NoEntry → reader_groups result.0 ≡ reader_groups self }
         ensures book { reader_pair result.0 ≡ reader_pair self }
@@ -98,6 +99,7 @@ impl ReadEnd {
         ensures many { IsErrOf result.1 PassError.TooManyRows
             → AreTooManyWhere (Shows address.now) (heard (reader_seen result.0)) window }
         ensures causes { IsErrOf result.1 PassError.NoMemory → ⊥ }
+        ensures nothing { heard (reader_seen result.0) ≡ [] → IfErr result.1 (λ e. e ≡ PassError.NoEntry) }
         ensures grows { IsPrefix (reader_groups self) (reader_groups result.0) }
         ensures no_entry { IsErrOf result.1 PassError.NoEntry → reader_groups result.0 ≡ reader_groups self }
         ensures book { reader_pair result.0 ≡ reader_pair self }

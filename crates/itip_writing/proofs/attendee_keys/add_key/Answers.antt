@@ -12,4 +12,4 @@ returns c = λ key.
     let had : Bool = contains (slice_cmp nat_cmp) c.args.keys.now key in
     c.in_ok-insert.ensures.updates.0 key ∙ cond_or (eq_by_cmp (slice_cmp nat_cmp) new key) had
     ∙ ap (λ b. had || b) (sym (texts_ties new key) ∙ nat_list_eq_equiv.symm new key)
-    ∙ ap (λ (name : List ℕ). had || same_text key name) c.in_ok-key.ensures
+    ∙ ap (λ (name : List ℕ). had || same_text key name) c.in_ok-key.ensures.key

@@ -5,4 +5,4 @@ use Rattle.std.specs.Ordering.{nat_cmp}
 use Rattle.itip_writing.proofs.attendee_keys.has_key.Goals as goal
 
 pub returns : goal.returns
-returns c = c.contains.ensures ∙ ap (λ (key : List ℕ). contains (slice_cmp nat_cmp) c.args.keys.now key) c.in_ok-key.ensures
+returns c = c.contains.ensures ∙ ap (λ (key : List ℕ). contains (slice_cmp nat_cmp) c.args.keys.now key) c.in_ok-key.ensures.key

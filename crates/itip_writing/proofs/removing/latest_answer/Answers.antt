@@ -33,7 +33,7 @@ loop-line-preserved c =
     let key : Key = answer_key uid id c.line-item.result in
     let answer : Option Item = option_copied c.kept_answer-answer.result in
     let same : keys.Answer uid id c.as_str.result.now ≡ key =
-    ap (keys.Answer uid id) (c.as_str.ensures ∙ c.in_ok-key.ensures ∙ ap attendee_key c.value.ensures) in
+    ap (keys.Answer uid id) (c.as_str.ensures ∙ c.in_ok-key.ensures.key ∙ ap attendee_key c.value.ensures) in
     let kept : IsKeptOf items key answer = subst (λ (k : Key). IsKeptOf items k answer) same c.kept_answer-answer.ensures in
     let more = keys_more uid id c.args.lines.now c.loop-line.line-index c.line-item.result c.loop-line-test.true c.line-item.is in record {
       latest = subst (λ (o : Option Stamp). IsLatestOf (IsEqualRevision items (removed_keys uid id so_far) n) o)
@@ -53,7 +53,7 @@ returns-in_err-latest-clause-overtaken c =
     let key : Key = answer_key uid id c.line-item.result in
     let answer : Option Item = option_copied c.kept_answer-answer.result in
     let same : keys.Answer uid id c.as_str.result.now ≡ key =
-    ap (keys.Answer uid id) (c.as_str.ensures ∙ c.in_ok-key.ensures ∙ ap attendee_key c.value.ensures) in
+    ap (keys.Answer uid id) (c.as_str.ensures ∙ c.in_ok-key.ensures.key ∙ ap attendee_key c.value.ensures) in
     let kept : IsKeptOf items key answer = subst (λ (k : Key). IsKeptOf items k answer) same c.kept_answer-answer.ensures in
     let p = err_from_is_err_and c.from_residual-in_err-latest.result c.from_residual-in_err-latest.ensures.1 in
     rw (p.1, p.2) (if_overtaken items (removed_keys uid id c.args.lines.now) c.args.sequence answer
