@@ -1,5 +1,5 @@
 //! One run of the program: its words, and what they ask for.
-ghost use Rattle.std.specs.Prelude.{◌≡◌, IfOk, IfErr, OnErr, IfSome, IsErrOf};
+ghost use Rattle.std.specs.Prelude.{◌≡◌, ℕ, IfOk, IfErr, OnErr, IfSome, IsErrOf};
 ghost use Rattle.std.specs.Io.KnownBytes.{Keeps};
 ghost use Rattle.std.specs.Process.{exit_status};
 ghost use Rattle.itip_streams.specs.Written.{WritesOutput};
@@ -52,14 +52,12 @@ pub(crate) fn exit_code<
         + Files
         + Clock
         + Works
-        + Wait
+        + Does
         + Copy
-        + Send
-        + Sync
         + 'static,
 >(rt: &R, terminals: Terminals) -> ExitCode
     ensures { EndsProgram ⟦<Source<'static, R, R::Reader> as io::Read>⟧.remaining (R.gives rt.now) (R.shows rt.now)
-        (R.explains rt.now) (R.tells rt.now) (R.works rt.now) (exit_status result) }
+        (R.explains rt.now) (R.tells rt.now) (R.works rt.now) (R.does rt.now) (exit_status result) }
 {
     ExitCode::from(status(rt, terminals))
 }
@@ -73,14 +71,12 @@ fn status<
         + Files
         + Clock
         + Works
-        + Wait
+        + Does
         + Copy
-        + Send
-        + Sync
         + 'static,
 >(rt: &R, terminals: Terminals) -> u8
     ensures { EndsProgram ⟦<Source<'static, R, R::Reader> as io::Read>⟧.remaining (R.gives rt.now) (R.shows rt.now)
-        (R.explains rt.now) (R.tells rt.now) (R.works rt.now) result }
+        (R.explains rt.now) (R.tells rt.now) (R.works rt.now) (R.does rt.now) result }
 {
     let words = match rt.words() {
         Ok(words) => words,
@@ -95,7 +91,7 @@ fn status<
 }
 
 /// Does what is asked for, or says why nothing is run, and returns the exit status.
-fn done<R: AllocGlobal + Input + Says + Files + Works + Wait + Copy + Send + Sync + 'static>(
+fn done<R: AllocGlobal + Input + Says + Files + Works + Does + Copy + 'static>(
     rt: &R,
     call: Result<Call, NoCall>,
     terminals: Terminals,
@@ -103,7 +99,7 @@ fn done<R: AllocGlobal + Input + Says + Files + Works + Wait + Copy + Send + Syn
     requires run { IfOk call (IfRun (λ scripted. AreDesks scripted.desks)) }
     requires office { IfOk call (IfOffice AreOffice) }
     ensures called { IfOk call (λ asked. EndsCalled ⟦<Source<'static, R, R::Reader> as io::Read>⟧.remaining (R.explains rt.now)
-        (R.tells rt.now) (R.works rt.now) asked result) }
+        (R.tells rt.now) (R.works rt.now) (R.does rt.now) asked result) }
     ensures not_run { IfErr call (λ why. IsStatusOfNoCall (R.shows rt.now why) why result) }
 {
     match call {
@@ -113,7 +109,7 @@ fn done<R: AllocGlobal + Input + Says + Files + Works + Wait + Copy + Send + Syn
 }
 
 /// Does what is asked for, from standard input and to standard output, and returns the exit status.
-fn called<R: AllocGlobal + Input + Says + Files + Works + Wait + Copy + Send + Sync + 'static>(
+fn called<R: AllocGlobal + Input + Says + Files + Works + Does + Copy + 'static>(
     rt: &R,
     call: Call,
     terminals: Terminals,
@@ -121,14 +117,56 @@ fn called<R: AllocGlobal + Input + Says + Files + Works + Wait + Copy + Send + S
     requires run { IfRun (λ scripted. AreDesks scripted.desks) call }
     requires office { IfOffice AreOffice call }
     ensures { EndsCalled ⟦<Source<'static, R, R::Reader> as io::Read>⟧.remaining (R.explains rt.now) (R.tells rt.now)
-        (R.works rt.now) call result }
+        (R.works rt.now) (R.does rt.now) call result }
 {
     let Ok(mut reader) = BufReader::new(rt.alloc(), rt.reader()) else {
         return complain(rt, &"no memory", FAULT);
     };
     let mut writer = io::writer(rt);
     let mut files = DeskFiles::of(rt);
-    call_on(rt, &mut files, &mut reader, &mut writer, call, terminals)
+    rt.do_call(&mut files, &mut reader, &mut writer, call, terminals)
+}
+
+/// What does calls. Generic code knows nothing of `does`, so a function that ensures it must have had that very call done, and its
+/// status.
+trait Does: AllocGlobal + Input + Says + Files + Works + 'static {
+    ghost use Rattle.itip_words.specs.declared.words.Call.{Call};
+
+    /// This call was done, and ended with this status.
+    ghost does: { Self → Call → ℕ → Type 0 };
+
+    /// Does what is asked for, as [`call_on`] does.
+    fn do_call<F: Folder + Shelf, I: io::Read, W: io::Write>(
+        &self,
+        folder: &mut F,
+        reader: &mut I,
+        writer: &mut W,
+        call: Call,
+        terminals: Terminals,
+    ) -> u8
+        requires run { IfRun (λ scripted. AreDesks scripted.desks) call }
+        requires office { IfOffice AreOffice call }
+        ensures ends { EndsCall (F.holds folder.old) ⟦<Source<'static, Self, Self::Reader> as io::Read>⟧.remaining
+            (Self.explains self.now) (Self.tells self.now) (Self.works self.now) call (I.remaining reader.old) (I.remaining reader.new)
+            (W.contents writer.old) (W.contents writer.new) result }
+        ensures known { does self.now call result };
+}
+
+impl<R: AllocGlobal + Input + Says + Files + Works + Wait + Copy + Send + Sync + 'static> Does
+    for R
+{
+    ghost does = { λ _ _ _. Unit {0} };
+
+    fn do_call<F: Folder + Shelf, I: io::Read, W: io::Write>(
+        &self,
+        folder: &mut F,
+        reader: &mut I,
+        writer: &mut W,
+        call: Call,
+        terminals: Terminals,
+    ) -> u8 {
+        call_on(self, folder, reader, writer, call, terminals)
+    }
 }
 
 /// Does what is asked for, from a folder and a reader and to a writer, and returns the exit status. A filter has its own sources and

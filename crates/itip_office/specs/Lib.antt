@@ -1,4 +1,5 @@
 pub use Rattle.itip_desk.specs.Heard
+pub use Rattle.itip_desk.specs.Ticks
 pub use Rattle.itip_desk.specs.Desk
 pub use Rattle.itip_state.specs.Kept
 pub mod Numbers

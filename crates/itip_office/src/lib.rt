@@ -15,7 +15,6 @@ mod error;
 mod exchange;
 mod gate;
 mod gather;
-mod hands;
 mod job;
 mod job_loop;
 mod laws;
@@ -32,6 +31,7 @@ mod seat;
 mod source;
 mod start;
 mod team;
+mod to_keepers;
 mod watch;
 
 pub use desk_loop::keeper_loop;

@@ -27,7 +27,7 @@ impl Pass {
     ghost use Rattle.itip_view.specs.Showing.{Shows, AreRowsWhere, AreTooManyWhere, IsListTextFor};
     ghost use Rattle.itip_running.specs.Deltas.{IsDeltaAfter};
     ghost use Rattle.itip_running.specs.Parts.{AreKeptOf};
-    ghost use Rattle.itip_running.specs.Ends.{publishes_seen, seen, pass_pair, publishes_told, told, receipt_pair};
+    ghost use Rattle.itip_running.specs.Seen.{publishes_seen, seen, pass_pair, publishes_told, told, receipt_pair};
 
     /// Returns the text of the task list in a window, of a list of published batches that begins with all that this pass had seen. The
     /// pass has then seen these batches.

@@ -13,7 +13,7 @@ ghost use Rattle.itip_running.specs.Pair.{name_of};
 
 use crate::error::PassError;
 use crate::front::Front;
-use crate::look::Look;
+use crate::open_read::Look;
 use crate::pair_protocol::{PublishedReader, Sees};
 use crate::receipt::Receipt;
 use itip_desk::Batch;
@@ -32,7 +32,7 @@ pub(crate) struct ReadEnd {
 }
 
 impl ReadEnd {
-    ghost use Rattle.itip_running.specs.Ends.{reader_groups, reader_seen, reader_pair, publishes_told};
+    ghost use Rattle.itip_running.specs.Seen.{reader_groups, reader_seen, reader_pair, publishes_told};
 
     /// Looks at what is published, which begins with all that was seen. If the pair lets nobody in or shows less, returns the end
     /// unchanged.

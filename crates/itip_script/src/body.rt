@@ -1,7 +1,7 @@
 //! The bytes after a line of a stream.
-ghost use Rattle.std.specs.Prelude.{ℕ, ◌≡◌, ◌≢◌, ◌<◌, None, IfOk, IfErr, OnErr, IsErrOf};
+ghost use Rattle.std.specs.Prelude.{ℕ, ◌≡◌, ◌≢◌, ◌<◌, None, IfOk, IfErr, OnOk, OnErr, IsErrOf};
 ghost use Rattle.itip_script.specs.Stream.{ReadsBody, body_of};
-ghost use Rattle.itip_streams.specs.Once.{ReadsSome, ReadsTo};
+ghost use Rattle.itip_streams.specs.Once.{EndsReading, ReadsSome, ReadsTo};
 
 use itip_streams::{ReadOnce, StreamFault, pass_octets, read_octets};
 use std::alloc::Global;
@@ -30,6 +30,7 @@ pub fn read_body<R: Read + ReadOnce>(
 ) -> Result<Body, StreamFault>
     ensures reads { IfOk result (λ body. ReadsBody limit octets (R.remaining reader.old) (R.remaining reader.new) (body_of body)) }
     ensures fault { IfErr result (λ fault. fault ≢ StreamFault.Write) }
+    ensures well { OnOk result (EndsReading R.reads reader.old reader.new) }
     ensures failed { IsErrOf result StreamFault.Read → ReadsTo R.reads None reader.old reader.new }
     ensures stopped { IsErrOf result StreamFault.Memory → ReadsSome R.reads reader.old reader.new }
 {
@@ -47,6 +48,7 @@ fn pass_body<R: Read + ReadOnce>(reader: &mut R, octets: u64) -> Result<Body, St
     ensures reads { IfOk result (λ body. (limit : ℕ) → limit < octets
         → ReadsBody limit octets (R.remaining reader.old) (R.remaining reader.new) (body_of body)) }
     ensures fault { IfErr result (λ fault. fault ≡ StreamFault.Read) }
+    ensures well { OnOk result (EndsReading R.reads reader.old reader.new) }
     ensures failed { OnErr result (ReadsTo R.reads None reader.old reader.new) }
 {
     let all = pass_octets(reader, octets)?;

@@ -5,11 +5,11 @@ ghost use Rattle.itip_view.specs.AscendingUids.{AreAscendingUids, AreAscendingUi
 use crate::NoMemory;
 use crate::error::ViewError;
 use crate::list_text::text_by_uid;
-use crate::most::{RowCount, count_among};
 use crate::row::Row;
-use crate::row_order::{rows_by_uid, sorted_uids};
-use crate::shown::shown_rows;
+use crate::row_count::{RowCount, count_among};
+use crate::uid_order::{rows_by_uid, sorted_uids};
 use crate::wanted::Wanted;
+use crate::wanted_rows::shown_rows;
 use crate::window::Window;
 use itip_state::State;
 use itip_todo::Uid;

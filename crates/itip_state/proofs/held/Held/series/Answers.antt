@@ -6,4 +6,4 @@ use Rattle.itip_state.proofs.held.Held.series.Goals as goal
 pub returns-in_err-push-clause-succeeds : goal.returns-in_err-push-clause-succeeds
 returns-in_err-push-clause-succeeds c = λ none.
     absurd (none_known (map (λ item. item.now) c.loop-series.items.items) (uid_states c.loop-series.series-iterator uid_state) _ _
-    c.in-Known.field-0 (ap (λ es. uid_states es uid_state) c.in-Some.ensures.steps) c.in-Known.is (c.loop-series.invariant ∙ none))
+    _ (ap (λ es. uid_states es uid_state) c.in-Some.ensures.steps) c.in-Known.is (c.loop-series.invariant ∙ none))
