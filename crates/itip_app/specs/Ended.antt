@@ -210,8 +210,8 @@ pub data EndsCall {I : Type 0} (holds : List ℕ → Option (List ℕ) → Type 
 abbrev pub AnyFile : List ℕ → Option (List ℕ) → Type 0
 AnyFile name octets = Unit {0}
 
--- What is asked for is done, and no other call, with some input and some output: nothing is known here of what standard input gives and
--- standard output holds. `call_on` says it of every reader and writer.
+-- The call that is asked for was done and ended with this status, with some input and some output; nothing is said of other calls. Nothing
+-- is known here of what standard input gives and standard output holds: `call_on` says it of every reader and writer.
 pub record EndsDone {I : Type 0} (remaining : I → Option (List ℕ)) (explains : Bool → Type 0) (tells : ℕ → Bool → Type 0)
     (works : Option ℕ → Type 0) (does : Call → ℕ → Type 0) (what : Call) (status : ℕ) : Type 0
   where

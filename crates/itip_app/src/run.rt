@@ -127,8 +127,8 @@ fn called<R: AllocGlobal + Input + Says + Files + Works + Does + Copy + 'static>
     rt.do_call(&mut files, &mut reader, &mut writer, call, terminals)
 }
 
-/// What does calls. Generic code knows nothing of `does`, so a function that ensures it must have had that very call done, and its
-/// status.
+/// What does the calls of the program. Generic code knows nothing of `does`, so a function that ensures it of a call and a status must
+/// have had this call done, and with this status. It may have had others done too.
 trait Does: AllocGlobal + Input + Says + Files + Works + 'static {
     ghost use Rattle.itip_words.specs.declared.words.Call.{Call};
 

@@ -1,4 +1,4 @@
--- The ticks of a desk, and which UIDs moved after one (our own rule).
+-- The ticks of a desk, and which UIDs moved after a tick (our own rule).
 use Rattle.std.specs.Prelude.{◌≡◌, ◌↔◌, ℕ, ◌+◌, ◌<◌, List, [], ◌∷◌, ◌++◌, ◌⊎◌}
 use Rattle.std.specs.List.{Contains}
 use Rattle.itip_items.specs.KeyParts.{uid_of}

@@ -28,9 +28,9 @@ pub const TOO_LONG: LineRefusal = LineRefusal {
 /// Reads one message and writes `items N` and the canonical bytes of its N items, sorted by these bytes, each once; or `refused N` if
 /// the text is no message. A text of more than 1,048,576 bytes is `refused 1`. Returns whether it was refused.
 ///
-/// Once a refusal is written, `watch` is told of it, as that of message 1 of source 0. On [`StreamFault::Read`], which is also returned
-/// when [`MAX_READS`](itip_streams::MAX_READS) reads are not enough, nothing has been written, and if a read failed, none was made after
-/// it; on another error a prefix of the output has been written.
+/// Once a refusal is written, `watch` is told of it, as that of message 1 of source 0. If it returns `Ok`, no read failed. On
+/// [`StreamFault::Read`], which is also returned when [`MAX_READS`](itip_streams::MAX_READS) reads are not enough, nothing has been
+/// written; if a read failed, it was the last. On another error a prefix of the output has been written.
 pub fn check<R: Read + ReadOnce, W: Write, S: Watch>(
     alloc: Global,
     reader: &mut R,

@@ -1,4 +1,4 @@
-//! Reads inputs to their ends, a share of one at a time.
+//! Reads sources to their ends, a share of one at a time.
 ghost use Rattle.std.specs.Prelude.{◌≡◌, ◌≢◌, ◌++◌, ◌+◌, ℕ, List, false, length, map, IfOk, IfErr, OnOk, IfSome, IsTrue};
 ghost use Rattle.std.specs.Option.{option_copied};
 ghost use Rattle.itip_message.specs.Parting.{StaysParted};

@@ -1,4 +1,4 @@
-//! What a worker hands on.
+//! What a worker hands on to the keepers.
 ghost use Rattle.std.specs.Prelude.{◌≢◌, IfErr, IsErrOf};
 
 use crate::error::OfficeError;

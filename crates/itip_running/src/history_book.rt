@@ -1,4 +1,4 @@
-//! The history of a desk: the list of what each call of `publish` was to show. It exists only in the proofs.
+//! The book of a desk's history: its rule, and the step that adds what a call of `publish` was to show. It exists only in the proofs.
 
 use crate::history::History;
 use logbook::{Gain, Plain, Play, Rule};

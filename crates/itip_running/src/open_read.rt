@@ -65,8 +65,8 @@ impl Look {
         }
     }
 
-    /// Whether a list is made after the read, of shared items: if something is published that the pass has neither seen nor been told of,
-    /// the keeper is active. A desk that keeps nothing has nothing to share.
+    /// Whether a list is made after the read, of shared items. It is if something is published that the pass has neither seen nor been told
+    /// of, since the keeper is active then; but not if the desk keeps nothing, since there is nothing to share.
     fn is_shared(&self) -> bool
         ensures { heard (batches_of self.now.front.seen.log) ≡ [] → result ≡ false }
     {

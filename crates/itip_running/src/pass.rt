@@ -33,8 +33,8 @@ impl Pass {
     /// pass has then seen these batches.
     ///
     /// Fails with [`PassError::TooManyRows`] (31) if there are more than 100,000 rows, and with [`PassError::NoListMemory`] (32) if an
-    /// allocation fails; the pass has seen the batches all the same. If they have no item, it can only fail with
-    /// [`PassError::NoEntry`] (45): if the pair lets nobody in or shows less than was seen; then the pass has seen nothing more.
+    /// allocation fails; the pass has seen the batches all the same. If these have no item, it fails with neither. Fails with
+    /// [`PassError::NoEntry`] (45) if the pair lets nobody in or shows less than was seen; then the pass has seen nothing more.
     #[tactic(auto, using(crate::proofs::Groups::prefix_batches))]
     pub fn list(&mut self, window: Window) -> Result<Vec<u8>, PassError>
         ensures text { IfOk result (λ text. IsListText (heard (seen self.new)) window text.items) }
@@ -56,8 +56,8 @@ impl Pass {
     /// [`list`](Pass::list).
     ///
     /// Fails with [`PassError::TooManyRows`] (31) if more than 100,000 rows show the attendee, and with [`PassError::NoListMemory`] (32)
-    /// if an allocation fails; the pass has seen the batches all the same. If they have no item, it can only fail with
-    /// [`PassError::NoEntry`] (45): if the pair lets nobody in or shows less than was seen; then the pass has seen nothing more.
+    /// if an allocation fails; the pass has seen the batches all the same. If these have no item, it fails with neither. Fails with
+    /// [`PassError::NoEntry`] (45) if the pair lets nobody in or shows less than was seen; then the pass has seen nothing more.
     #[tactic(auto, using(crate::proofs::Groups::prefix_batches))]
     pub fn list_for(&mut self, window: Window, address: &str) -> Result<Vec<u8>, PassError>
         ensures text { IfOk result (λ text. IsListTextFor address.now (heard (seen self.new)) window text.items) }

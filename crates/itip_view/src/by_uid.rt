@@ -40,7 +40,7 @@ impl<'s, 'w> RowsByUid<'s, 'w> {
     ghost use Rattle.itip_view.specs.ByUid.{AreAsked, AreLeft, AreTooManyLeft, IsCountOf, IsNextOf, IsTextLeft, uids_left, uids_of};
     ghost use Rattle.itip_view.specs.declared.row.Row.{Row};
 
-    /// The rows of all UIDs. Fails only when out of memory; if nothing is kept it takes none.
+    /// The rows of all UIDs. Fails only when out of memory; if nothing is kept, no UID is left, and it takes none.
     pub fn of(
         alloc: Global,
         state: &'s State,

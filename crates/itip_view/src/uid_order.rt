@@ -1,4 +1,4 @@
-//! The rows of several UIDs, one UID after another.
+//! UIDs in order, and the rows of several UIDs in that order.
 ghost use Rattle.std.specs.Prelude.{◌≡◌, ◌↔◌, ℕ, List, [], IfOk, IsOk, map};
 ghost use Rattle.std.specs.List.{Contains};
 ghost use Rattle.itip_state.specs.Kept.{AscendTexts};

@@ -5,7 +5,7 @@ use Rattle.itip_app.proofs.run.status.Goals as goal
 pub returns : goal.returns
 returns g c = inr (inr (record {
   words = map string_bytes c.as_slice.result.now;
-  given = c.words-words.ensures.given;
+  given = c.words.ensures.given;
   clock = c.now.result;
   what = c.read_words.result;
   asked = c.read_words.ensures.asked;
