@@ -37,7 +37,7 @@ use Rattle.itip_app.specs.declared.stream.Unserved.{Unserved}
 
 -- `explains` tells with which flag it was asked what a watch is to say: causes if it is set. `tells` tells with which number a refusal was
 -- said, and with which flag: with its cause if that is set. `works` tells how many threads were asked for, `shows` whether it could be
--- said why nothing is run, `gives` which words the program was given, or why none, and `does` which call was done, with which status.
+-- said why nothing is run, and `gives` which words the program was given, or why none.
 
 -- ---- a script
 
@@ -210,27 +210,26 @@ pub data EndsCall {I : Type 0} (holds : List ℕ → Option (List ℕ) → Type 
 abbrev pub AnyFile : List ℕ → Option (List ℕ) → Type 0
 AnyFile name octets = Unit {0}
 
--- The call that is asked for was done and ended with this status, with some input and some output; nothing is said of other calls. Nothing
--- is known here of what standard input gives and standard output holds: `call_on` says it of every reader and writer.
+-- What is asked for is done, with some input and some output: nothing is known here of what standard input gives and standard output
+-- holds. `call_on` says it of every reader and writer.
 pub record EndsDone {I : Type 0} (remaining : I → Option (List ℕ)) (explains : Bool → Type 0) (tells : ℕ → Bool → Type 0)
-    (works : Option ℕ → Type 0) (does : Call → ℕ → Type 0) (what : Call) (status : ℕ) : Type 0
+    (works : Option ℕ → Type 0) (what : Call) (status : ℕ) : Type 0
   where
     pub input : Option (List ℕ)
     pub left : Option (List ℕ)
     pub old : Option (List ℕ)
     pub new : Option (List ℕ)
     pub ends : EndsCall AnyFile remaining explains tells works what input left old new status
-    pub done : does what status
 
 -- The same; or the status is 3, as it is if there is no memory for reading: the clause doesn't say when.
 abbrev pub EndsCalled : {I : Type 0} → (I → Option (List ℕ)) → (Bool → Type 0) → (ℕ → Bool → Type 0) → (Option ℕ → Type 0) →
-    (Call → ℕ → Type 0) → Call → ℕ → Type 0
-EndsCalled remaining explains tells works does what status = (status ≡ 3) ⊎ EndsDone remaining explains tells works does what status
+    Call → ℕ → Type 0
+EndsCalled remaining explains tells works what status = (status ≡ 3) ⊎ EndsDone remaining explains tells works what status
 
 -- The status is that of the call that the given words ask for, or of why nothing is run for them.
 pub record EndsWords {I : Type 0} (remaining : I → Option (List ℕ)) (gives : Result (List (List ℕ)) NoWords → Type 0)
-    (shows : NoCall → Bool → Type 0) (explains : Bool → Type 0) (tells : ℕ → Bool → Type 0) (works : Option ℕ → Type 0)
-    (does : Call → ℕ → Type 0) (status : ℕ) : Type 0
+    (shows : NoCall → Bool → Type 0) (explains : Bool → Type 0) (tells : ℕ → Bool → Type 0) (works : Option ℕ → Type 0) (status : ℕ)
+    : Type 0
   where
     pub words : List (List ℕ)
     pub given : gives (Ok words)
@@ -238,12 +237,12 @@ pub record EndsWords {I : Type 0} (remaining : I → Option (List ℕ)) (gives :
     pub what : Result Call NoCall
     pub asked : IfOk what (IsAskedBy words clock)
     pub unasked : IfErr what (IsNoCall words clock)
-    pub called : IfOk what (λ asked. EndsCalled remaining explains tells works does asked status)
+    pub called : IfOk what (λ asked. EndsCalled remaining explains tells works asked status)
     pub not_run : IfErr what (λ why. IsStatusOfNoCall (shows why) why status)
 
 -- The same; or the words can't be had: the status is 2 if one is no text, and 3 if an allocation failed.
 abbrev pub EndsProgram : {I : Type 0} → (I → Option (List ℕ)) → (Result (List (List ℕ)) NoWords → Type 0) → (NoCall → Bool → Type 0) →
-    (Bool → Type 0) → (ℕ → Bool → Type 0) → (Option ℕ → Type 0) → (Call → ℕ → Type 0) → ℕ → Type 0
-EndsProgram remaining gives shows explains tells works does status =
+    (Bool → Type 0) → (ℕ → Bool → Type 0) → (Option ℕ → Type 0) → ℕ → Type 0
+EndsProgram remaining gives shows explains tells works status =
     ((status ≡ 2) × gives (Err no_words.NoText)) ⊎ (((status ≡ 3) × gives (Err no_words.NoMemory)) ⊎
-    EndsWords remaining gives shows explains tells works does status)
+    EndsWords remaining gives shows explains tells works status)

@@ -1,5 +1,5 @@
 //! One run of the program: its words, and what they ask for.
-ghost use Rattle.std.specs.Prelude.{◌≡◌, ℕ, IfOk, IfErr, OnErr, IfSome, IsErrOf};
+ghost use Rattle.std.specs.Prelude.{◌≡◌, IfOk, IfErr, OnErr, IfSome, IsErrOf};
 ghost use Rattle.std.specs.Io.KnownBytes.{Keeps};
 ghost use Rattle.std.specs.Process.{exit_status};
 ghost use Rattle.itip_streams.specs.Written.{WritesOutput};
@@ -52,12 +52,14 @@ pub(crate) fn exit_code<
         + Files
         + Clock
         + Works
-        + Does
+        + Wait
         + Copy
+        + Send
+        + Sync
         + 'static,
 >(rt: &R, terminals: Terminals) -> ExitCode
     ensures { EndsProgram ⟦<Source<'static, R, R::Reader> as io::Read>⟧.remaining (R.gives rt.now) (R.shows rt.now)
-        (R.explains rt.now) (R.tells rt.now) (R.works rt.now) (R.does rt.now) (exit_status result) }
+        (R.explains rt.now) (R.tells rt.now) (R.works rt.now) (exit_status result) }
 {
     ExitCode::from(status(rt, terminals))
 }
@@ -71,12 +73,14 @@ fn status<
         + Files
         + Clock
         + Works
-        + Does
+        + Wait
         + Copy
+        + Send
+        + Sync
         + 'static,
 >(rt: &R, terminals: Terminals) -> u8
     ensures { EndsProgram ⟦<Source<'static, R, R::Reader> as io::Read>⟧.remaining (R.gives rt.now) (R.shows rt.now)
-        (R.explains rt.now) (R.tells rt.now) (R.works rt.now) (R.does rt.now) result }
+        (R.explains rt.now) (R.tells rt.now) (R.works rt.now) result }
 {
     let words = match rt.words() {
         Ok(words) => words,
@@ -91,7 +95,7 @@ fn status<
 }
 
 /// Does what is asked for, or says why nothing is run, and returns the exit status.
-fn done<R: AllocGlobal + Input + Says + Files + Works + Does + Copy + 'static>(
+fn done<R: AllocGlobal + Input + Says + Files + Works + Wait + Copy + Send + Sync + 'static>(
     rt: &R,
     call: Result<Call, NoCall>,
     terminals: Terminals,
@@ -99,7 +103,7 @@ fn done<R: AllocGlobal + Input + Says + Files + Works + Does + Copy + 'static>(
     requires run { IfOk call (IfRun (λ scripted. AreDesks scripted.desks)) }
     requires office { IfOk call (IfOffice AreOffice) }
     ensures called { IfOk call (λ asked. EndsCalled ⟦<Source<'static, R, R::Reader> as io::Read>⟧.remaining (R.explains rt.now)
-        (R.tells rt.now) (R.works rt.now) (R.does rt.now) asked result) }
+        (R.tells rt.now) (R.works rt.now) asked result) }
     ensures not_run { IfErr call (λ why. IsStatusOfNoCall (R.shows rt.now why) why result) }
 {
     match call {
@@ -109,7 +113,7 @@ fn done<R: AllocGlobal + Input + Says + Files + Works + Does + Copy + 'static>(
 }
 
 /// Does what is asked for, from standard input and to standard output, and returns the exit status.
-fn called<R: AllocGlobal + Input + Says + Files + Works + Does + Copy + 'static>(
+fn called<R: AllocGlobal + Input + Says + Files + Works + Wait + Copy + Send + Sync + 'static>(
     rt: &R,
     call: Call,
     terminals: Terminals,
@@ -117,56 +121,14 @@ fn called<R: AllocGlobal + Input + Says + Files + Works + Does + Copy + 'static>
     requires run { IfRun (λ scripted. AreDesks scripted.desks) call }
     requires office { IfOffice AreOffice call }
     ensures { EndsCalled ⟦<Source<'static, R, R::Reader> as io::Read>⟧.remaining (R.explains rt.now) (R.tells rt.now)
-        (R.works rt.now) (R.does rt.now) call result }
+        (R.works rt.now) call result }
 {
     let Ok(mut reader) = BufReader::new(rt.alloc(), rt.reader()) else {
         return complain(rt, &"no memory", FAULT);
     };
     let mut writer = io::writer(rt);
     let mut files = DeskFiles::of(rt);
-    rt.do_call(&mut files, &mut reader, &mut writer, call, terminals)
-}
-
-/// What does the calls of the program. Generic code knows nothing of `does`, so a function that ensures it of a call and a status must
-/// have had this call done, and with this status. It may have had others done too.
-trait Does: AllocGlobal + Input + Says + Files + Works + 'static {
-    ghost use Rattle.itip_words.specs.declared.words.Call.{Call};
-
-    /// This call was done, and ended with this status.
-    ghost does: { Self → Call → ℕ → Type 0 };
-
-    /// Does what is asked for, as [`call_on`] does.
-    fn do_call<F: Folder + Shelf, I: io::Read, W: io::Write>(
-        &self,
-        folder: &mut F,
-        reader: &mut I,
-        writer: &mut W,
-        call: Call,
-        terminals: Terminals,
-    ) -> u8
-        requires run { IfRun (λ scripted. AreDesks scripted.desks) call }
-        requires office { IfOffice AreOffice call }
-        ensures ends { EndsCall (F.holds folder.old) ⟦<Source<'static, Self, Self::Reader> as io::Read>⟧.remaining
-            (Self.explains self.now) (Self.tells self.now) (Self.works self.now) call (I.remaining reader.old) (I.remaining reader.new)
-            (W.contents writer.old) (W.contents writer.new) result }
-        ensures known { does self.now call result };
-}
-
-impl<R: AllocGlobal + Input + Says + Files + Works + Wait + Copy + Send + Sync + 'static> Does
-    for R
-{
-    ghost does = { λ _ _ _. Unit {0} };
-
-    fn do_call<F: Folder + Shelf, I: io::Read, W: io::Write>(
-        &self,
-        folder: &mut F,
-        reader: &mut I,
-        writer: &mut W,
-        call: Call,
-        terminals: Terminals,
-    ) -> u8 {
-        call_on(self, folder, reader, writer, call, terminals)
-    }
+    call_on(rt, &mut files, &mut reader, &mut writer, call, terminals)
 }
 
 /// Does what is asked for, from a folder and a reader and to a writer, and returns the exit status. A filter has its own sources and

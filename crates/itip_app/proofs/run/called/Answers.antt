@@ -2,4 +2,4 @@ use Rattle.std.proofs.Common.{inr}
 use Rattle.itip_app.proofs.run.called.Goals as goal
 
 pub returns : goal.returns
-returns g c = inr (record { input = _; left = _; old = _; new = _; ends = c.do_call.ensures.ends; done = c.do_call.ensures.known })
+returns g c = inr (record { input = _; left = _; old = _; new = _; ends = c.call_on.ensures })
