@@ -1,5 +1,5 @@
 -- What each kind of call comes to, and the status that tells it (docs/USING.md; our own rule).
-use Rattle.std.specs.Prelude.{◌≡◌, ℕ, Bool, List, Option, None, Result, IfOk, IfErr, OnErr, IfSome, IsErrOf}
+use Rattle.std.specs.Prelude.{◌≡◌, ◌⊎◌, ℕ, Bool, List, Option, Some, None, Result, Ok, Err, IfOk, IfErr, OnErr, IfSome, IsErrOf}
 use Rattle.std.specs.Io.KnownBytes.{Keeps}
 use Rattle.itip_streams.specs.Written.{AppendsFront, WritesOutput}
 use Rattle.itip_streams.specs.declared.fault.StreamFault.{StreamFault}
@@ -8,22 +8,36 @@ use Rattle.itip_streams.specs.declared.source_name.SourceName.{SourceName}
 use Rattle.itip_inbox.specs.Compaction.{IsCompaction}
 use Rattle.itip_inbox.specs.Inbox.{AreInputs}
 use Rattle.itip_inbox.specs.Shown.{IsShown}
+use Rattle.itip_desk.specs.Refusals.{number_of_file}
+use Rattle.itip_message.specs.RefusalNumbers.{number_of}
+use Rattle.itip_message.specs.declared.error.MessageRefusal.{MessageRefusal}
+use Rattle.itip_moment.specs.declared.stamp.Stamp.{Stamp}
 use Rattle.itip_world.specs.Running.{IsOutput, WritesRunFront}
 use Rattle.itip_office.specs.Scripts.{IsScriptOutput, WritesScriptFront}
 use Rattle.itip_office.specs.declared.error.OfficeError.{OfficeError}
 use Rattle.itip_office.specs.declared.error.ScriptError.{ScriptError}
 use Rattle.itip_office.specs.declared.error.ScriptError.TheVariants as script
+use Rattle.itip_words.specs.Program.{IsAskedBy, IsNoCall}
+use Rattle.itip_words.specs.declared.filter.Filter.{Filter}
 use Rattle.itip_words.specs.declared.filter.Written.{Written}
+use Rattle.itip_words.specs.declared.filter.Written.TheVariants as written
+use Rattle.itip_words.specs.declared.no_call.NoCall.{NoCall}
 use Rattle.itip_words.specs.declared.streamed.Streamed.{Streamed}
 use Rattle.itip_words.specs.declared.words.Call.{Call}
 use Rattle.itip_words.specs.declared.words.Call.TheVariants as call
 use Rattle.itip_words.specs.declared.words.Scripted.{Scripted}
 use Rattle.itip_app.specs.Filtered.{Filters, FiltersFront, Writes}
-use Rattle.itip_app.specs.Status.{status_shown, status_filtered, status_served}
+use Rattle.itip_app.specs.Status.{status_shown, status_filtered, status_served, IsUnreadable, IfFileRefused, IsStatusOfNoCall}
 use Rattle.itip_app.specs.Streamed.{ServesStream, IsUnserved}
 use Rattle.itip_app.specs.declared.draft.Draft.{Draft}
 use Rattle.itip_app.specs.declared.filters.Outcome.{Outcome}
+use Rattle.itip_app.specs.declared.given.NoWords.{NoWords}
+use Rattle.itip_app.specs.declared.given.NoWords.TheVariants as no_words
 use Rattle.itip_app.specs.declared.stream.Unserved.{Unserved}
+
+-- `explains` tells with which flag it was asked what a watch is to say: causes if it is set. `tells` tells with which number a refusal was
+-- said, and with which flag: with its cause if that is set. `works` tells how many threads were asked for, `shows` whether it could be
+-- said why nothing is run, and `gives` which words the program was given, or why none.
 
 -- ---- a script
 
@@ -36,7 +50,8 @@ pub record RunComesTo (scripted : Scripted) (input old new : Option (List ℕ)) 
   pub unread : IsErrOf done Read → Keeps old new
 
 -- The status is that of what the run came to.
-pub record EndsRun (scripted : Scripted) (input old new : Option (List ℕ)) (status : ℕ) : Type 0 where
+pub record EndsRun (explains : Bool → Type 0) (scripted : Scripted) (input old new : Option (List ℕ)) (status : ℕ) : Type 0 where
+  pub explained : explains scripted.why
   pub done : Result Bool StreamFault
   pub comes : RunComesTo scripted input old new done
   pub status_is : status ≡ status_shown done
@@ -52,7 +67,8 @@ pub record OfficeComesTo (scripted : Scripted) (input old new : Option (List ℕ
   pub unended : (error : OfficeError) → IsErrOf done (script.Office error) → Keeps old new
 
 -- The status is that of what the office came to.
-pub record EndsOffice (scripted : Scripted) (input old new : Option (List ℕ)) (status : ℕ) : Type 0 where
+pub record EndsOffice (explains : Bool → Type 0) (scripted : Scripted) (input old new : Option (List ℕ)) (status : ℕ) : Type 0 where
+  pub explained : explains scripted.why
   pub done : Result Bool ScriptError
   pub comes : OfficeComesTo scripted input old new done
   pub status_is : status ≡ status_shown done
@@ -68,7 +84,8 @@ pub record ShowingComesTo (input old new : Option (List ℕ)) (done : Result Boo
   pub unread : IsErrOf done Read → Keeps old new
 
 -- The status is that of what the showing came to.
-pub record EndsShowing (input old new : Option (List ℕ)) (status : ℕ) : Type 0 where
+pub record EndsShowing (explains : Bool → Type 0) (why : Bool) (input old new : Option (List ℕ)) (status : ℕ) : Type 0 where
+  pub explained : explains why
   pub done : Result Bool StreamFault
   pub comes : ShowingComesTo input old new done
   pub status_is : status ≡ status_shown done
@@ -88,21 +105,68 @@ pub record FilterComesTo {I : Type 0} (remaining : I → Option (List ℕ)) (wri
         FiltersFront written draft names known inputs old new)
     pub unread : IsErrOf done Read → Keeps old new
 
+-- a draft or a message to be written that is refused was told by its number, and with its cause if this flag is set
+abbrev pub TellsRefused : (ℕ → Bool → Type 0) → Bool → Result Outcome StreamFault → Type 0
+TellsRefused tells why done =
+    IfOk done (λ outcome. (refusal : MessageRefusal) → IsUnreadable outcome.undone refusal → tells (number_of refusal) why)
+
 -- The status is that of what the filter came to.
-pub record EndsFilter {I : Type 0} (remaining : I → Option (List ℕ)) (written : Written) (draft : Draft) (names : List SourceName)
-    (than sources : List I) (old new : Option (List ℕ)) (status : ℕ) : Type 0
+pub record EndsFilter {I : Type 0} (remaining : I → Option (List ℕ)) (tells : ℕ → Bool → Type 0) (works : Option ℕ → Type 0)
+    (filter : Filter) (draft : Draft) (names : List SourceName) (than sources : List I) (old new : Option (List ℕ)) (status : ℕ) : Type 0
   where
+    pub worked : works filter.intake.threads
     pub done : Result Outcome StreamFault
-    pub comes : FilterComesTo remaining written draft names than sources old new done
+    pub comes : FilterComesTo remaining filter.written draft names than sources old new done
+    pub told : TellsRefused tells filter.intake.why done
     pub status_is : status ≡ status_filtered done
 
 -- A file was replaced, or there was a fault. Nothing is known of the file; whether a message was refused is what the compaction of the
 -- sources says.
-pub record EndsReplacing {I : Type 0} (remaining : I → Option (List ℕ)) (sources : List I) (status : ℕ) : Type 0 where
-  pub done : Result Outcome StreamFault
-  pub output : IfOk done (λ outcome. (inputs : List (List ℕ)) → AreInputs remaining sources inputs →
-      Writes (IsCompaction inputs) None None outcome)
-  pub status_is : status ≡ status_filtered done
+pub record EndsReplacing {I : Type 0} (remaining : I → Option (List ℕ)) (tells : ℕ → Bool → Type 0) (works : Option ℕ → Type 0)
+    (filter : Filter) (sources : List I) (status : ℕ) : Type 0
+  where
+    pub worked : works filter.intake.threads
+    pub done : Result Outcome StreamFault
+    pub output : IfOk done (λ outcome. (inputs : List (List ℕ)) → AreInputs remaining sources inputs →
+        Writes (IsCompaction inputs) None None outcome)
+    pub told : TellsRefused tells filter.intake.why done
+    pub status_is : status ≡ status_filtered done
+
+-- a file is to be replaced
+abbrev pub ReplacesFile : Written → Type 0
+ReplacesFile (written.Compaction None) = ⊥
+ReplacesFile (written.Compaction (Some name)) = Unit {0}
+ReplacesFile (written.List asked) = ⊥
+ReplacesFile (written.Report asked) = ⊥
+ReplacesFile (written.News than) = ⊥
+ReplacesFile (written.Explanation uid) = ⊥
+ReplacesFile (written.Message asked at) = ⊥
+
+-- Sources of the program are filtered, in place of a file if one is to be replaced, and else to some output; or the status is 3, as it is
+-- if there is no memory for them: the clause doesn't say when.
+pub data EndsSources {I : Type 0} (remaining : I → Option (List ℕ)) (tells : ℕ → Bool → Type 0) (works : Option ℕ → Type 0)
+    (filter : Filter) (draft : Draft) (status : ℕ) : Type 0
+  where
+    unheld : status ≡ 3 → EndsSources remaining tells works filter draft status
+    replaced : (sources : List I) → ReplacesFile filter.written → EndsReplacing remaining tells works filter sources status
+        → EndsSources remaining tells works filter draft status
+    filtered : (names : List SourceName) (than sources : List I) (old new : Option (List ℕ)) → ¬ ReplacesFile filter.written
+        → EndsFilter remaining tells works filter draft names than sources old new status
+        → EndsSources remaining tells works filter draft status
+
+-- A draft was read, or none is asked for, and sources are filtered.
+pub record EndsWithDraft {I : Type 0} (remaining : I → Option (List ℕ)) (explains : Bool → Type 0) (tells : ℕ → Bool → Type 0)
+    (works : Option ℕ → Type 0) (filter : Filter) (status : ℕ) : Type 0
+  where
+    pub explained : explains filter.intake.why
+    pub draft : Draft
+    pub ends : EndsSources remaining tells works filter draft status
+
+-- The same; or the status is 3, as it is if the draft can't be read or there is no memory for names: the clause doesn't say when.
+abbrev pub EndsFiltered : {I : Type 0} → (I → Option (List ℕ)) → (Bool → Type 0) → (ℕ → Bool → Type 0) → (Option ℕ → Type 0) →
+    Filter → ℕ → Type 0
+EndsFiltered remaining explains tells works filter status =
+    (status ≡ 3) ⊎ EndsWithDraft remaining explains tells works filter status
 
 -- ---- a stream of commands
 
@@ -114,19 +178,71 @@ pub record ServingComesTo (holds : List ℕ → Option (List ℕ) → Type 0) (s
     pub unserved : IfErr done (IsUnserved holds streamed input left old new)
 
 -- The status is that of what the serving came to.
-pub record EndsServing (holds : List ℕ → Option (List ℕ) → Type 0) (streamed : Streamed) (input left old new : Option (List ℕ)) (status : ℕ) : Type 0
+pub record EndsServing (holds : List ℕ → Option (List ℕ) → Type 0) (explains : Bool → Type 0) (tells : ℕ → Bool → Type 0)
+    (streamed : Streamed) (input left old new : Option (List ℕ)) (status : ℕ) : Type 0
   where
+    pub explained : explains streamed.scripted.why
     pub done : Result Bool Unserved
     pub comes : ServingComesTo holds streamed input left old new done
+    pub told : IfFileRefused done (λ refusal. tells (number_of_file refusal) streamed.scripted.why)
     pub status_is : status ≡ status_served done
 
 -- ---- all of them
 
--- The status is that of what was asked for. Nothing is said here of a filter, which has its own sources and output.
-abbrev pub EndsCall : (List ℕ → Option (List ℕ) → Type 0) → Call → Option (List ℕ) → Option (List ℕ) →
-    Option (List ℕ) → Option (List ℕ) → ℕ → Type 0
-EndsCall holds (call.Run scripted) input left old new status = EndsRun scripted input old new status
-EndsCall holds (call.Stream streamed) input left old new status = EndsServing holds streamed input left old new status
-EndsCall holds (call.Office scripted workers) input left old new status = EndsOffice scripted input old new status
-EndsCall holds (call.Check why) input left old new status = EndsShowing input old new status
-EndsCall holds (call.Filter filter) input left old new status = Unit {0}
+-- The status is that of what was asked for. A filter has its own sources and output: `remaining` is what is left of a source.
+pub data EndsCall {I : Type 0} (holds : List ℕ → Option (List ℕ) → Type 0) (remaining : I → Option (List ℕ)) (explains : Bool → Type 0)
+    (tells : ℕ → Bool → Type 0) (works : Option ℕ → Type 0) (what : Call) (input left old new : Option (List ℕ)) (status : ℕ) : Type 0
+  where
+    of_run : (scripted : Scripted) → what ≡ call.Run scripted → EndsRun explains scripted input old new status
+        → EndsCall holds remaining explains tells works what input left old new status
+    of_stream : (streamed : Streamed) → what ≡ call.Stream streamed → EndsServing holds explains tells streamed input left old new status
+        → EndsCall holds remaining explains tells works what input left old new status
+    of_office : (scripted : Scripted) (workers : ℕ) → what ≡ call.Office scripted workers
+        → EndsOffice explains scripted input old new status → EndsCall holds remaining explains tells works what input left old new status
+    of_check : (why : Bool) → what ≡ call.Check why → EndsShowing explains why input old new status
+        → EndsCall holds remaining explains tells works what input left old new status
+    of_filter : (asked : Filter) → what ≡ call.Filter asked → EndsFiltered remaining explains tells works asked status
+        → EndsCall holds remaining explains tells works what input left old new status
+
+-- ---- the program
+
+-- nothing is known of what files hold
+abbrev pub AnyFile : List ℕ → Option (List ℕ) → Type 0
+AnyFile name octets = Unit {0}
+
+-- What is asked for is done, with some input and some output: nothing is known here of what standard input gives and standard output
+-- holds. `call_on` says it of every reader and writer.
+pub record EndsDone {I : Type 0} (remaining : I → Option (List ℕ)) (explains : Bool → Type 0) (tells : ℕ → Bool → Type 0)
+    (works : Option ℕ → Type 0) (what : Call) (status : ℕ) : Type 0
+  where
+    pub input : Option (List ℕ)
+    pub left : Option (List ℕ)
+    pub old : Option (List ℕ)
+    pub new : Option (List ℕ)
+    pub ends : EndsCall AnyFile remaining explains tells works what input left old new status
+
+-- The same; or the status is 3, as it is if there is no memory for reading: the clause doesn't say when.
+abbrev pub EndsCalled : {I : Type 0} → (I → Option (List ℕ)) → (Bool → Type 0) → (ℕ → Bool → Type 0) → (Option ℕ → Type 0) →
+    Call → ℕ → Type 0
+EndsCalled remaining explains tells works what status = (status ≡ 3) ⊎ EndsDone remaining explains tells works what status
+
+-- The status is that of the call that the given words ask for, or of why nothing is run for them.
+pub record EndsWords {I : Type 0} (remaining : I → Option (List ℕ)) (gives : Result (List (List ℕ)) NoWords → Type 0)
+    (shows : NoCall → Bool → Type 0) (explains : Bool → Type 0) (tells : ℕ → Bool → Type 0) (works : Option ℕ → Type 0) (status : ℕ)
+    : Type 0
+  where
+    pub words : List (List ℕ)
+    pub given : gives (Ok words)
+    pub clock : Option Stamp
+    pub what : Result Call NoCall
+    pub asked : IfOk what (IsAskedBy words clock)
+    pub unasked : IfErr what (IsNoCall words clock)
+    pub called : IfOk what (λ asked. EndsCalled remaining explains tells works asked status)
+    pub not_run : IfErr what (λ why. IsStatusOfNoCall (shows why) why status)
+
+-- The same; or the words can't be had: the status is 2 if one is no text, and 3 if an allocation failed.
+abbrev pub EndsProgram : {I : Type 0} → (I → Option (List ℕ)) → (Result (List (List ℕ)) NoWords → Type 0) → (NoCall → Bool → Type 0) →
+    (Bool → Type 0) → (ℕ → Bool → Type 0) → (Option ℕ → Type 0) → ℕ → Type 0
+EndsProgram remaining gives shows explains tells works status =
+    ((status ≡ 2) × gives (Err no_words.NoText)) ⊎ (((status ≡ 3) × gives (Err no_words.NoMemory)) ⊎
+    EndsWords remaining gives shows explains tells works status)

@@ -1,3 +1,4 @@
+pub mod Said
 pub mod Status
 pub mod Filtered
 pub mod Streamed

@@ -1,5 +1,5 @@
 //! The words that read messages: their sources, and what comes of them.
-ghost use Rattle.std.specs.Prelude.{◌≡◌, ℕ, List, [], Some, None, IfOk, OnErr, IfSome, IsErrOf};
+ghost use Rattle.std.specs.Prelude.{◌≡◌, ℕ, List, [], Some, None, IfOk, OnErr, IsErrOf, MatchOption};
 ghost use Rattle.std.specs.Io.KnownBytes.{Keeps};
 ghost use Rattle.itip_inbox.specs.Inbox.{AreInputs};
 ghost use Rattle.itip_inbox.specs.Compaction.{IsCompaction};
@@ -7,14 +7,18 @@ ghost use Rattle.itip_inbox.specs.Explaining.{IsExplained};
 ghost use Rattle.itip_inbox.specs.News.{IsNews};
 ghost use Rattle.itip_inbox.specs.OfInbox.{WritesFront};
 ghost use Rattle.itip_inbox.specs.Reports.{IsReport};
-ghost use Rattle.itip_app.specs.Status.{status_refused, status_done, status_filtered};
+ghost use Rattle.itip_message.specs.RefusalNumbers.{number_of};
+ghost use Rattle.itip_message.specs.declared.error.MessageRefusal.{MessageRefusal};
+ghost use Rattle.itip_app.specs.Status.{status_refused, status_done, status_filtered, IsUnreadable};
 ghost use Rattle.itip_app.specs.Filtered.{octets_in, Writes, WritesList, WritesExplanation, WritesMessage, Filters};
 ghost use Rattle.itip_app.specs.Filtered.{WritesFrontOf, WritesListFront, WritesMessageFront, FiltersFront};
-ghost use Rattle.itip_app.specs.Ended.{EndsFilter, EndsReplacing};
+ghost use Rattle.itip_app.specs.Ended.{EndsFilter, EndsReplacing, EndsSources, EndsFiltered, ReplacesFile};
+ghost use Rattle.itip_app.specs.declared.draft.Draft.{Draft};
 
 use crate::draft::{Draft, draft_of};
 use crate::run::{FAULT, Terminals};
-use crate::tell::{Teller, complain, complain_of, complain_refused, warn};
+use crate::tell::{Says, Teller, complain, complain_of, complain_refused, warn};
+use crate::thread_count::{ThreadCount, Works};
 use itip_inbox::{
     CsvList, Explained, JsonList, ListForm, PageList, Sent, TextList, Watch, compact, explain,
     list, news, read_sources, report, send,
@@ -22,13 +26,12 @@ use itip_inbox::{
 use itip_message::MessageRefusal;
 use itip_moment::Stamp;
 use itip_streams::{
-    Replacement, SourceName, StreamFault, TerminalWriter, source_names, sources_of, unread_line,
-    visible_text,
+    Replacement, Source, SourceName, StreamFault, TerminalWriter, source_names, sources_of,
+    unread_line, visible_text,
 };
 use itip_todo::{PropertyName, Uid};
-use itip_words::{Asked, Filter, Format, Listing, MAX_THREADS, Reported, Written};
+use itip_words::{Asked, Filter, Format, Listing, Reported, Written};
 use itip_writing::WritingError;
-use rayon::current_num_threads;
 use std::alloc::AllocError;
 use std::io;
 use std::rt::Files;
@@ -81,11 +84,14 @@ enum Undone {
 }
 
 /// Filters messages and returns the exit status.
-pub(crate) fn filtered<R: AllocGlobal + Input + Print + Eprint + Files + Threads + Copy + Sync>(
+pub(crate) fn filtered<R: AllocGlobal + Input + Says + Files + Works + Copy + Sync + 'static>(
     rt: &R,
     filter: &Filter,
     terminals: Terminals,
-) -> u8 {
+) -> u8
+    ensures { EndsFiltered ⟦<Source<'static, R, R::Reader> as io::Read>⟧.remaining (R.explains rt.now) (R.tells rt.now)
+        (R.works rt.now) filter.now result }
+{
     let named = match names_of(rt, filter) {
         Ok(named) => named,
         Err(_) => return complain(rt, &"no memory", FAULT),
@@ -95,18 +101,21 @@ pub(crate) fn filtered<R: AllocGlobal + Input + Print + Eprint + Files + Threads
         Err(StreamFault::Read) => return complain_unread(rt, named.draft.first()),
         Err(fault) => return complain(rt, &fault, FAULT),
     };
-    let mut teller = Teller::new(rt, &named, filter, terminals.errors);
+    let causes = rt.causes(filter.intake.why);
+    let mut teller = Teller::new(rt, &named, filter, causes, terminals.errors);
     filter_sources(rt, &named, filter, &draft, terminals.output, &mut teller)
 }
 
 /// Says what came of a filter, and returns the exit status. `last` is the source that was opened last.
-fn status_of<R: AllocGlobal + Eprint>(
+fn status_of<R: AllocGlobal + Says>(
     rt: &R,
     filter: &Filter,
     done: Result<Outcome, StreamFault>,
     last: Option<&SourceName>,
 ) -> u8
-    ensures { result ≡ status_filtered done }
+    ensures status { result ≡ status_filtered done }
+    ensures told { IfOk done (λ outcome. (refusal : MessageRefusal) → IsUnreadable outcome.undone refusal →
+        R.tells rt.now (number_of refusal) filter.now.intake.why) }
 {
     match done {
         Ok(outcome) => told(rt, &outcome, filter.intake.why),
@@ -160,16 +169,19 @@ fn draft_name<R: AllocGlobal>(rt: &R, written: &Written) -> Result<Vec<SourceNam
 
 /// Filters the messages of the named sources, to a file or to standard output, and returns the exit status. `is_terminal` says whether
 /// standard output is a terminal.
-fn filter_sources<R: AllocGlobal + Input + Print + Eprint + Files + Threads + Copy + Sync>(
+fn filter_sources<R: AllocGlobal + Input + Says + Files + Works + Copy + Sync + 'static>(
     rt: &R,
     named: &Named,
     filter: &Filter,
     draft: &Draft,
     is_terminal: bool,
     teller: &mut Teller<'_, R>,
-) -> u8 {
-    if let Written::Compaction { output: Some(name) } = &filter.written {
-        return replace(rt, named, filter, name.as_str(), teller);
+) -> u8
+    ensures { EndsSources ⟦<Source<'static, R, R::Reader> as io::Read>⟧.remaining (R.tells rt.now) (R.works rt.now) filter.now
+        draft.now result }
+{
+    if let Some(name) = replaced_file(&filter.written) {
+        return replace(rt, named, filter, name, teller);
     }
     if is_terminal {
         let mut writer = TerminalWriter::new(rt.alloc(), io::writer(rt));
@@ -179,15 +191,34 @@ fn filter_sources<R: AllocGlobal + Input + Print + Eprint + Files + Threads + Co
     filter_to(rt, named, filter, draft, &mut writer, teller)
 }
 
+/// The name of the file that is to be replaced, if one is.
+fn replaced_file(written: &Written) -> Option<&str>
+    ensures { MatchOption result (¬ ReplacesFile written.now) (λ _. ReplacesFile written.now) }
+{
+    match written {
+        Written::Compaction { output: Some(name) } => Some(name.as_str()),
+        Written::Compaction { output: None } => None,
+        Written::List(_) => None,
+        Written::Report(_) => None,
+        Written::News { .. } => None,
+        Written::Explanation { .. } => None,
+        Written::Message { .. } => None,
+    }
+}
+
 /// Filters the messages of the named sources, and returns the exit status.
-fn filter_to<R: AllocGlobal + Input + Eprint + Files + Threads + Sync, W: io::Write>(
+fn filter_to<R: AllocGlobal + Input + Says + Files + Works + Sync + 'static, W: io::Write>(
     rt: &R,
     named: &Named,
     filter: &Filter,
     draft: &Draft,
     writer: &mut W,
     teller: &mut Teller<'_, R>,
-) -> u8 {
+) -> u8
+    requires { ¬ ReplacesFile filter.now.written }
+    ensures { EndsSources ⟦<Source<'static, R, R::Reader> as io::Read>⟧.remaining (R.tells rt.now) (R.works rt.now) filter.now
+        draft.now result }
+{
     let names = named.heard.as_slice();
     let Ok(than) = sources_of(rt, named.than.as_slice()) else {
         return complain(rt, &"no memory", FAULT);
@@ -199,7 +230,7 @@ fn filter_to<R: AllocGlobal + Input + Eprint + Files + Threads + Sync, W: io::Wr
 }
 
 /// Writes what is asked for of sources, as [`write_filtered`] does, says what came of it and returns the exit status.
-fn filter_status<R: AllocGlobal + Eprint + Threads + Sync, I: io::Read + Drop, W: io::Write>(
+fn filter_status<R: AllocGlobal + Says + Works + Sync, I: io::Read + Drop, W: io::Write>(
     rt: &R,
     than: Vec<I>,
     sources: Vec<I>,
@@ -209,10 +240,10 @@ fn filter_status<R: AllocGlobal + Eprint + Threads + Sync, I: io::Read + Drop, W
     writer: &mut W,
     teller: &mut Teller<'_, R>,
 ) -> u8
-    ensures { EndsFilter I.remaining filter.now.written draft.now names.now than.items sources.items
+    ensures { EndsFilter I.remaining (R.tells rt.now) (R.works rt.now) filter.now draft.now names.now than.items sources.items
         (W.contents writer.old) (W.contents writer.new) result }
 {
-    let threads = threads(rt, filter.intake.threads);
+    let threads = rt.thread_count(filter.intake.threads);
     let done = write_filtered(
         rt,
         than,
@@ -229,13 +260,17 @@ fn filter_status<R: AllocGlobal + Eprint + Threads + Sync, I: io::Read + Drop, W
 }
 
 /// Replaces a file with what is kept of the named sources, and returns the exit status.
-fn replace<R: AllocGlobal + Input + Eprint + Files + Threads + Copy + Sync>(
+fn replace<R: AllocGlobal + Input + Says + Files + Works + Copy + Sync + 'static>(
     rt: &R,
     named: &Named,
     filter: &Filter,
     name: &str,
     teller: &mut Teller<'_, R>,
-) -> u8 {
+) -> u8
+    requires { ReplacesFile filter.now.written }
+    ensures { (draft : Draft) → EndsSources ⟦<Source<'static, R, R::Reader> as io::Read>⟧.remaining (R.tells rt.now)
+        (R.works rt.now) filter.now draft result }
+{
     let Ok(sources) = sources_of(rt, named.heard.as_slice()) else {
         return complain(rt, &"no memory", FAULT);
     };
@@ -243,17 +278,17 @@ fn replace<R: AllocGlobal + Input + Eprint + Files + Threads + Copy + Sync>(
 }
 
 /// Replaces a file with what is kept of sources, says what came of it and returns the exit status.
-fn replace_status<R: AllocGlobal + Eprint + Files + Threads + Copy + Sync, I: io::Read + Drop>(
+fn replace_status<R: AllocGlobal + Says + Files + Works + Copy + Sync, I: io::Read + Drop>(
     rt: &R,
     sources: Vec<I>,
     filter: &Filter,
     name: &str,
     teller: &mut Teller<'_, R>,
 ) -> u8
-    ensures { EndsReplacing I.remaining sources.items result }
+    ensures { EndsReplacing I.remaining (R.tells rt.now) (R.works rt.now) filter.now sources.items result }
 {
-    let threads = threads(rt, filter.intake.threads);
-    let replaced = write_replacement(rt, sources, name, threads, teller);
+    let thread_count = rt.thread_count(filter.intake.threads);
+    let replaced = write_replacement(rt, sources, name, thread_count, teller);
     teller.show_progress();
     status_of(rt, filter, replaced, teller.last_opened())
 }
@@ -263,13 +298,14 @@ fn write_replacement<R: AllocGlobal + Files + Threads + Copy + Sync, I: io::Read
     rt: &R,
     sources: Vec<I>,
     name: &str,
-    threads: usize,
+    threads: ThreadCount,
     watch: &mut S,
 ) -> Result<Outcome, StreamFault>
     ensures { IfOk result (λ outcome. (inputs : List (List ℕ)) → AreInputs I.remaining sources.items inputs →
         Writes (IsCompaction inputs) None None outcome) }
 {
     let mut writer = Replacement::of(rt, name)?;
+    let threads = threads.count();
     let done = compact(rt, rt.alloc(), sources, &mut writer, threads, watch);
     let is_refused = writer.end(done)?;
     Ok(done_with(rt, is_refused))
@@ -285,7 +321,7 @@ fn write_filtered<R: AllocGlobal + Threads + Sync, I: io::Read + Drop, W: io::Wr
     written: &Written,
     draft: &Draft,
     writer: &mut W,
-    threads: usize,
+    threads: ThreadCount,
     watch: &mut S,
 ) -> Result<Outcome, StreamFault>
     ensures output { IfOk result (λ outcome. (known inputs : List (List ℕ)) →
@@ -314,7 +350,7 @@ fn write_compaction<R: AllocGlobal + Threads + Sync, I: io::Read + Drop, W: io::
     rt: &R,
     sources: Vec<I>,
     writer: &mut W,
-    threads: usize,
+    threads: ThreadCount,
     watch: &mut S,
 ) -> Result<Outcome, StreamFault>
     ensures output { IfOk result (λ outcome. (inputs : List (List ℕ)) → AreInputs I.remaining sources.items inputs →
@@ -323,6 +359,7 @@ fn write_compaction<R: AllocGlobal + Threads + Sync, I: io::Read + Drop, W: io::
         WritesFrontOf (IsCompaction inputs) (W.contents writer.old) (W.contents writer.new)) }
     ensures unread { IsErrOf result StreamFault.Read → Keeps (W.contents writer.old) (W.contents writer.new) }
 {
+    let threads = threads.count();
     let done = compact(rt, rt.alloc(), sources, writer, threads, watch)?;
     Ok(done_with(rt, done))
 }
@@ -332,7 +369,7 @@ fn write_news<R: AllocGlobal + Threads + Sync, I: io::Read + Drop, W: io::Write,
     than: Vec<I>,
     sources: Vec<I>,
     writer: &mut W,
-    threads: usize,
+    threads: ThreadCount,
     watch: &mut S,
 ) -> Result<Outcome, StreamFault>
     ensures output { IfOk result (λ outcome. (known inputs : List (List ℕ)) →
@@ -343,6 +380,7 @@ fn write_news<R: AllocGlobal + Threads + Sync, I: io::Read + Drop, W: io::Write,
         WritesFrontOf (IsNews known inputs) (W.contents writer.old) (W.contents writer.new)) }
     ensures unread { IsErrOf result StreamFault.Read → Keeps (W.contents writer.old) (W.contents writer.new) }
 {
+    let threads = threads.count();
     let done = news(rt, rt.alloc(), than, sources, writer, threads, watch)?;
     Ok(done_with(rt, done))
 }
@@ -352,7 +390,7 @@ fn write_list<R: AllocGlobal + Threads + Sync, I: io::Read + Drop, W: io::Write,
     sources: Vec<I>,
     writer: &mut W,
     asked: &Listing,
-    threads: usize,
+    threads: ThreadCount,
     watch: &mut S,
 ) -> Result<Outcome, StreamFault>
     ensures output { IfOk result (λ outcome. (inputs : List (List ℕ)) → AreInputs I.remaining sources.items inputs →
@@ -384,7 +422,7 @@ fn write_form<
     writer: &mut W,
     asked: &Listing,
     form: &F,
-    threads: usize,
+    threads: ThreadCount,
     watch: &mut S,
 ) -> Result<Outcome, StreamFault>
     ensures output { IfOk result (λ outcome. (inputs : List (List ℕ)) → AreInputs I.remaining sources.items inputs →
@@ -393,6 +431,7 @@ fn write_form<
         WritesListFront (F.octets form.now) asked.now inputs (W.contents writer.old) (W.contents writer.new)) }
     ensures unread { IsErrOf result StreamFault.Read → Keeps (W.contents writer.old) (W.contents writer.new) }
 {
+    let threads = threads.count();
     let wanted = asked.wanted();
     let done = list(
         rt,
@@ -413,7 +452,7 @@ fn write_report<R: AllocGlobal + Threads + Sync, I: io::Read + Drop, W: io::Writ
     sources: Vec<I>,
     writer: &mut W,
     asked: &Reported,
-    threads: usize,
+    threads: ThreadCount,
     watch: &mut S,
 ) -> Result<Outcome, StreamFault>
     ensures output { IfOk result (λ outcome. (inputs : List (List ℕ)) → AreInputs I.remaining sources.items inputs →
@@ -422,6 +461,7 @@ fn write_report<R: AllocGlobal + Threads + Sync, I: io::Read + Drop, W: io::Writ
         WritesFrontOf (IsReport asked.now.name inputs asked.now.window) (W.contents writer.old) (W.contents writer.new)) }
     ensures unread { IsErrOf result StreamFault.Read → Keeps (W.contents writer.old) (W.contents writer.new) }
 {
+    let threads = threads.count();
     let done = report(
         rt,
         rt.alloc(),
@@ -441,7 +481,7 @@ fn write_explanation<R: AllocGlobal + Threads + Sync, I: io::Read + Drop, W: io:
     sources: Vec<I>,
     writer: &mut W,
     uid: &Uid,
-    threads: usize,
+    threads: ThreadCount,
     watch: &mut S,
 ) -> Result<Outcome, StreamFault>
     ensures output { IfOk result (λ outcome. (inputs : List (List ℕ)) → AreInputs I.remaining sources.items inputs →
@@ -450,6 +490,7 @@ fn write_explanation<R: AllocGlobal + Threads + Sync, I: io::Read + Drop, W: io:
         WritesFront (IsExplained uid.now names.now inputs) (W.contents writer.old) (W.contents writer.new)) }
     ensures unread { IsErrOf result StreamFault.Read → Keeps (W.contents writer.old) (W.contents writer.new) }
 {
+    let threads = threads.count();
     match explain(rt, rt.alloc(), sources, names, uid, writer, threads, watch)? {
         Explained::Told { is_refused } => Ok(done_with(rt, is_refused)),
         Explained::Unknown => Ok(nothing_done(rt, Undone::Unknown)),
@@ -464,7 +505,7 @@ fn write_message<R: AllocGlobal + Threads + Sync, I: io::Read + Drop, W: io::Wri
     writer: &mut W,
     asked: &Asked,
     at: Stamp,
-    threads: usize,
+    threads: ThreadCount,
     watch: &mut S,
 ) -> Result<Outcome, StreamFault>
     ensures output { IfOk result (λ outcome. (inputs : List (List ℕ)) → AreInputs I.remaining sources.items inputs →
@@ -478,6 +519,7 @@ fn write_message<R: AllocGlobal + Threads + Sync, I: io::Read + Drop, W: io::Wri
         return Ok(nothing_done(rt, Undone::Draft(refusal)));
     }
     let errand = asked.errand(draft.todos.as_slice());
+    let threads = threads.count();
     match send(rt, rt.alloc(), sources, &errand, at, writer, threads, watch)? {
         Sent::Done {
             is_refused,
@@ -495,9 +537,10 @@ fn write_message<R: AllocGlobal + Threads + Sync, I: io::Read + Drop, W: io::Wri
 fn hear_only<R: AllocGlobal + Threads + Sync, I: io::Read + Drop, S: Watch>(
     rt: &R,
     sources: Vec<I>,
-    threads: usize,
+    threads: ThreadCount,
     watch: &mut S,
 ) -> Result<(), StreamFault> {
+    let threads = threads.count();
     let inbox = read_sources(rt, rt.alloc(), sources, None, threads, watch)?;
     for refused in inbox.refusals.as_slice() {
         watch.refused(refused);
@@ -527,18 +570,10 @@ fn nothing_done<R: AllocGlobal>(rt: &R, why: Undone) -> Outcome
     }
 }
 
-fn threads<R: Threads>(rt: &R, asked: Option<u64>) -> usize
-    ensures { IfSome asked (λ threads. result ≡ threads) }
-{
-    match asked {
-        Some(threads) => threads as usize,
-        None => current_num_threads(rt).min(MAX_THREADS as usize),
-    }
-}
-
 /// Says what a message lacks, or why nothing was written, and returns the exit status.
-fn told<R: Eprint>(rt: &R, outcome: &Outcome, why: bool) -> u8
-    ensures { result ≡ status_done outcome.now.undone outcome.now.is_refused }
+fn told<R: Says>(rt: &R, outcome: &Outcome, why: bool) -> u8
+    ensures status { result ≡ status_done outcome.now.undone outcome.now.is_refused }
+    ensures told { (refusal : MessageRefusal) → IsUnreadable outcome.now.undone refusal → R.tells rt.now (number_of refusal) why }
 {
     if let Some(undone) = outcome.undone {
         return complain_undone(rt, undone, why);
@@ -554,8 +589,9 @@ pub(crate) fn refused_status(is_refused: bool) -> u8
     if is_refused { 1 } else { 0 }
 }
 
-fn complain_undone<R: Eprint>(rt: &R, undone: Undone, why: bool) -> u8
-    ensures { result ≡ 4 }
+fn complain_undone<R: Says>(rt: &R, undone: Undone, why: bool) -> u8
+    ensures status { result ≡ 4 }
+    ensures told { (refusal : MessageRefusal) → IsUnreadable (Some undone) refusal → R.tells rt.now (number_of refusal) why }
 {
     match undone {
         Undone::Unknown => complain(rt, &"no message about this to-do", NOT_DONE),
@@ -584,10 +620,10 @@ fn complain_unread<R: AllocGlobal + Eprint>(rt: &R, name: Option<&SourceName>) -
 fn complain_unwritten<R: AllocGlobal + Eprint>(rt: &R, written: &Written) -> u8
     ensures { result ≡ 3 }
 {
-    let Written::Compaction { output: Some(name) } = written else {
+    let Some(name) = replaced_file(written) else {
         return complain(rt, &"write failed", FAULT);
     };
-    match visible_text(rt.alloc(), name.as_str()) {
+    match visible_text(rt.alloc(), name) {
         Ok(name) => complain_of(rt, name.as_str(), "write failed", FAULT),
         Err(_) => complain(rt, &"no memory", FAULT),
     }

@@ -9,9 +9,11 @@
 
 mod draft;
 mod filters;
+mod given;
 mod run;
 mod stream;
 mod tell;
+mod thread_count;
 
 use run::Terminals;
 use std::io::IsTerminal;
@@ -22,5 +24,5 @@ fn main(rt: HostRuntime) -> ExitCode {
         output: rt.stdout().is_terminal(),
         errors: rt.stderr().is_terminal(),
     };
-    ExitCode::from(run::status(&rt, terminals))
+    run::exit_code(&rt, terminals)
 }

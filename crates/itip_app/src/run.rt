@@ -1,6 +1,7 @@
 //! One run of the program: its words, and what they ask for.
 ghost use Rattle.std.specs.Prelude.{◌≡◌, IfOk, IfErr, OnErr, IfSome, IsErrOf};
 ghost use Rattle.std.specs.Io.KnownBytes.{Keeps};
+ghost use Rattle.std.specs.Process.{exit_status};
 ghost use Rattle.itip_streams.specs.Written.{WritesOutput};
 ghost use Rattle.itip_world.specs.Running.{IsOutput, WritesRunFront};
 ghost use Rattle.itip_office.specs.Scripts.{IsScriptOutput, WritesScriptFront};
@@ -8,23 +9,26 @@ ghost use Rattle.itip_office.specs.declared.error.OfficeError.{OfficeError};
 ghost use Rattle.itip_words.specs.Calls.{IfRun, IfOffice, AreOffice};
 ghost use Rattle.itip_words.specs.Words.{AreDesks, AreWorkers};
 ghost use Rattle.itip_app.specs.Status.{status_shown, IsStatusOfNoCall};
-ghost use Rattle.itip_app.specs.Ended.{EndsRun, EndsOffice, EndsShowing, EndsCall};
+ghost use Rattle.itip_app.specs.Ended.{EndsRun, EndsOffice, EndsShowing, EndsCall, EndsCalled, EndsProgram};
 
 use crate::filters::{filtered, refused_status};
+use crate::given::{Gives, NoWords};
 use crate::stream::{DeskFiles, Folder, stream};
-use crate::tell::{Explainer, complain};
+use crate::tell::{Explainer, Says, complain};
+use crate::thread_count::Works;
 use itip_inbox::check;
 use itip_office::{ScriptError, run_jobs};
-use itip_streams::StreamFault;
+use itip_streams::{Source, StreamFault};
 use itip_words::{Call, NoCall, Scripted, now, read_words};
 use itip_world::{Shelf, run_script_watched};
 use std::alloc::Global;
 use std::fmt::Display;
+use std::io;
 use std::io::BufReader;
-use std::rt::{Clock, Env, Files};
+use std::process::ExitCode;
+use std::rt::{Clock, Files};
 use std::sync::Wait;
 use std::thread::Threads;
-use std::{env, io};
 
 const BAD_WORDS: u8 = 2;
 
@@ -39,29 +43,49 @@ pub(crate) struct Terminals {
     pub(crate) errors: bool,
 }
 
-/// Runs the program and returns its exit status.
-pub(crate) fn status<
+/// Runs the program and returns how it ends.
+pub(crate) fn exit_code<
     R: AllocGlobal
-        + Env
+        + Gives
         + Input
-        + Print
-        + Eprint
+        + Says
         + Files
         + Clock
-        + Threads
+        + Works
         + Wait
         + Copy
         + Send
         + Sync
         + 'static,
->(rt: &R, terminals: Terminals) -> u8 {
-    let words: Vec<String> = match env::args(rt).map(|words| words.collect(rt.alloc())) {
-        Ok(Ok(words)) => words,
-        Ok(Err(_)) => return complain(rt, &"no memory", FAULT),
-        Err(error) if error.kind() == io::ErrorKind::OutOfMemory => {
-            return complain(rt, &"no memory", FAULT);
-        }
-        Err(_) => return complain(rt, &"bad words", BAD_WORDS),
+>(rt: &R, terminals: Terminals) -> ExitCode
+    ensures { EndsProgram ⟦<Source<'static, R, R::Reader> as io::Read>⟧.remaining (R.gives rt.now) (R.shows rt.now)
+        (R.explains rt.now) (R.tells rt.now) (R.works rt.now) (exit_status result) }
+{
+    ExitCode::from(status(rt, terminals))
+}
+
+/// Runs the program and returns its exit status.
+fn status<
+    R: AllocGlobal
+        + Gives
+        + Input
+        + Says
+        + Files
+        + Clock
+        + Works
+        + Wait
+        + Copy
+        + Send
+        + Sync
+        + 'static,
+>(rt: &R, terminals: Terminals) -> u8
+    ensures { EndsProgram ⟦<Source<'static, R, R::Reader> as io::Read>⟧.remaining (R.gives rt.now) (R.shows rt.now)
+        (R.explains rt.now) (R.tells rt.now) (R.works rt.now) result }
+{
+    let words = match rt.words() {
+        Ok(words) => words,
+        Err(NoWords::NoText) => return complain(rt, &"bad words", BAD_WORDS),
+        Err(NoWords::NoMemory) => return complain(rt, &"no memory", FAULT),
     };
     done(
         rt,
@@ -71,12 +95,16 @@ pub(crate) fn status<
 }
 
 /// Does what is asked for, or says why nothing is run, and returns the exit status.
-fn done<
-    R: AllocGlobal + Input + Print + Eprint + Files + Threads + Wait + Copy + Send + Sync + 'static,
->(rt: &R, call: Result<Call, NoCall>, terminals: Terminals) -> u8
+fn done<R: AllocGlobal + Input + Says + Files + Works + Wait + Copy + Send + Sync + 'static>(
+    rt: &R,
+    call: Result<Call, NoCall>,
+    terminals: Terminals,
+) -> u8
     requires run { IfOk call (IfRun (λ scripted. AreDesks scripted.desks)) }
     requires office { IfOk call (IfOffice AreOffice) }
-    ensures { IfErr call (λ why. IsStatusOfNoCall why result) }
+    ensures called { IfOk call (λ asked. EndsCalled ⟦<Source<'static, R, R::Reader> as io::Read>⟧.remaining (R.explains rt.now)
+        (R.tells rt.now) (R.works rt.now) asked result) }
+    ensures not_run { IfErr call (λ why. IsStatusOfNoCall (R.shows rt.now why) why result) }
 {
     match call {
         Ok(call) => called(rt, call, terminals),
@@ -85,11 +113,15 @@ fn done<
 }
 
 /// Does what is asked for, from standard input and to standard output, and returns the exit status.
-fn called<
-    R: AllocGlobal + Input + Print + Eprint + Files + Threads + Wait + Copy + Send + Sync + 'static,
->(rt: &R, call: Call, terminals: Terminals) -> u8
+fn called<R: AllocGlobal + Input + Says + Files + Works + Wait + Copy + Send + Sync + 'static>(
+    rt: &R,
+    call: Call,
+    terminals: Terminals,
+) -> u8
     requires run { IfRun (λ scripted. AreDesks scripted.desks) call }
     requires office { IfOffice AreOffice call }
+    ensures { EndsCalled ⟦<Source<'static, R, R::Reader> as io::Read>⟧.remaining (R.explains rt.now) (R.tells rt.now)
+        (R.works rt.now) call result }
 {
     let Ok(mut reader) = BufReader::new(rt.alloc(), rt.reader()) else {
         return complain(rt, &"no memory", FAULT);
@@ -102,14 +134,15 @@ fn called<
 /// Does what is asked for, from a folder and a reader and to a writer, and returns the exit status. A filter has its own sources and
 /// output.
 fn call_on<
-    R: AllocGlobal + Input + Print + Eprint + Files + Threads + Wait + Copy + Send + Sync + 'static,
+    R: AllocGlobal + Input + Says + Files + Works + Wait + Copy + Send + Sync + 'static,
     F: Folder + Shelf,
     I: io::Read,
     W: io::Write,
 >(rt: &R, folder: &mut F, reader: &mut I, writer: &mut W, call: Call, terminals: Terminals) -> u8
     requires run { IfRun (λ scripted. AreDesks scripted.desks) call }
     requires office { IfOffice AreOffice call }
-    ensures { EndsCall (F.holds folder.old) call (I.remaining reader.old) (I.remaining reader.new)
+    ensures { EndsCall (F.holds folder.old) ⟦<Source<'static, R, R::Reader> as io::Read>⟧.remaining (R.explains rt.now)
+        (R.tells rt.now) (R.works rt.now) call (I.remaining reader.old) (I.remaining reader.new)
         (W.contents writer.old) (W.contents writer.new) result }
 {
     match call {
@@ -122,20 +155,16 @@ fn call_on<
 }
 
 /// Says why nothing is run, and returns the exit status.
-fn not_run<R: Print + Eprint>(rt: &R, why: NoCall) -> u8
-    ensures { IsStatusOfNoCall why result }
+fn not_run<R: Says>(rt: &R, why: NoCall) -> u8
+    ensures { IsStatusOfNoCall (R.shows rt.now why) why result }
 {
-    match why {
-        NoCall::Help(help) => match help.print(rt) {
+    match &why {
+        NoCall::Help(_) => match rt.show(&why) {
             Ok(()) => 0,
             Err(_) => complain(rt, &"write failed", FAULT),
         },
-        NoCall::Refused(error) => {
-            let _ = error.print(rt);
-            complain(rt, &"bad words", BAD_WORDS)
-        }
-        NoCall::BadValue(text) => {
-            let _ = rt.eprint(text);
+        NoCall::Refused(_) | NoCall::BadValue(_) => {
+            let _ = rt.show(&why);
             complain(rt, &"bad words", BAD_WORDS)
         }
         NoCall::NoClock => complain(rt, &"clock: read failed", FAULT),
@@ -144,16 +173,16 @@ fn not_run<R: Print + Eprint>(rt: &R, why: NoCall) -> u8
 }
 
 /// Runs a script from a reader, says what failed, and returns the exit status.
-fn run<R: AllocGlobal + Eprint, I: io::Read, W: io::Write>(
+fn run<R: AllocGlobal + Says, I: io::Read, W: io::Write>(
     rt: &R,
     reader: &mut I,
     writer: &mut W,
     asked: Scripted,
 ) -> u8
     requires { AreDesks asked.desks }
-    ensures { EndsRun asked (I.remaining reader.old) (W.contents writer.old) (W.contents writer.new) result }
+    ensures { EndsRun (R.explains rt.now) asked (I.remaining reader.old) (W.contents writer.old) (W.contents writer.new) result }
 {
-    let mut watch = Explainer::new(rt, asked.why);
+    let mut watch = Explainer::new(rt, rt.causes(asked.why));
     ended(rt, run_on(rt.alloc(), reader, writer, asked, &mut watch))
 }
 
@@ -179,15 +208,16 @@ fn run_on<I: io::Read, W: io::Write, S: itip_world::Watch>(
 
 /// Does the jobs of a script from a reader, says what failed, and returns the exit status.
 fn office<
-    R: AllocGlobal + Eprint + Threads + Wait + Copy + Send + Sync + 'static,
+    R: AllocGlobal + Says + Threads + Wait + Copy + Send + Sync + 'static,
     I: io::Read,
     W: io::Write,
 >(rt: &R, reader: &mut I, writer: &mut W, asked: Scripted, workers: u64) -> u8
     requires desks { AreDesks asked.desks }
     requires workers { AreWorkers workers }
-    ensures { EndsOffice asked (I.remaining reader.old) (W.contents writer.old) (W.contents writer.new) result }
+    ensures { EndsOffice (R.explains rt.now) asked (I.remaining reader.old) (W.contents writer.old) (W.contents writer.new) result }
 {
-    let mut watch = Explainer::new(rt, asked.why);
+    let causes = rt.causes(asked.why);
+    let mut watch = Explainer::new(rt, causes);
     ended(
         rt,
         office_on(rt, reader, writer, asked, workers, &mut watch),
@@ -226,15 +256,15 @@ fn office_on<
 }
 
 /// Shows the message from a reader, says what failed, and returns the exit status.
-fn show<R: AllocGlobal + Eprint, I: io::Read, W: io::Write>(
+fn show<R: AllocGlobal + Says, I: io::Read, W: io::Write>(
     rt: &R,
     reader: &mut I,
     writer: &mut W,
     why: bool,
 ) -> u8
-    ensures { EndsShowing (I.remaining reader.old) (W.contents writer.old) (W.contents writer.new) result }
+    ensures { EndsShowing (R.explains rt.now) why (I.remaining reader.old) (W.contents writer.old) (W.contents writer.new) result }
 {
-    let mut watch = Explainer::new(rt, why);
+    let mut watch = Explainer::new(rt, rt.causes(why));
     ended(rt, check(rt.alloc(), reader, writer, &mut watch))
 }
 

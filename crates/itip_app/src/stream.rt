@@ -2,15 +2,16 @@
 ghost use Rattle.std.specs.Prelude.{◌≡◌, ◌≢◌, ℕ, List, [], length, Option, Some, None, IfOk, IfErr, IfSome, IfNone, IsErrOf};
 ghost use Rattle.std.specs.List.{Contains};
 ghost use Rattle.itip_desk.specs.DeskFile.{TellsDesk, RefusesFile};
+ghost use Rattle.itip_desk.specs.Refusals.{number_of_file};
 ghost use Rattle.itip_desk.specs.declared.refusal.FileRefusal.{FileRefusal};
 ghost use Rattle.itip_words.specs.Streams.{names_of};
-ghost use Rattle.itip_app.specs.Status.{status_unloaded, status_served};
+ghost use Rattle.itip_app.specs.Status.{status_unloaded, status_served, IfRefused, IfFileRefused};
 ghost use Rattle.itip_app.specs.Streamed.{Begins, AreBegun, IsUnbegun, BeginsUpTo, ServesStream, IsUnserved};
 ghost use Rattle.itip_app.specs.Ended.{EndsServing};
 
 use crate::filters::refused_status;
 use crate::run::FAULT;
-use crate::tell::{Explainer, complain, complain_of, complain_of_file};
+use crate::tell::{Explainer, Says, complain, complain_of, complain_of_file};
 use itip_desk::{Desk, FileError, FileRefusal, read_desk, write_desk};
 use itip_streams::{Replacement, StreamFault, read_within, visible_text};
 use itip_words::{Load, Streamed};
@@ -87,18 +88,18 @@ enum Unserved<'a> {
 }
 
 /// Serves a stream from a reader, says what ended it early, if anything did, and returns the exit status.
-pub(crate) fn stream<R: AllocGlobal + Eprint, F: Folder + Shelf, I: io::Read, W: io::Write>(
+pub(crate) fn stream<R: AllocGlobal + Says, F: Folder + Shelf, I: io::Read, W: io::Write>(
     rt: &R,
     folder: &mut F,
     reader: &mut I,
     writer: &mut W,
     asked: &Streamed,
 ) -> u8
-    ensures { EndsServing (F.holds folder.old) asked.now (I.remaining reader.old) (I.remaining reader.new)
-        (W.contents writer.old) (W.contents writer.new) result }
+    ensures { EndsServing (F.holds folder.old) (R.explains rt.now) (R.tells rt.now) asked.now
+        (I.remaining reader.old) (I.remaining reader.new) (W.contents writer.old) (W.contents writer.new) result }
 {
     let why = asked.scripted.why;
-    let mut watch = Explainer::new(rt, why);
+    let mut watch = Explainer::new(rt, rt.causes(why));
     let done = stream_on(rt.alloc(), folder, reader, writer, asked, &mut watch);
     served(rt, done, why)
 }
@@ -205,8 +206,9 @@ fn loaded<F: Folder>(alloc: Global, folder: &F, file: &str) -> Result<Desk, Load
 }
 
 /// Says why a stream was not served to its end, if it wasn't, and returns the exit status.
-fn served<R: AllocGlobal + Eprint>(rt: &R, done: Result<bool, Unserved<'_>>, why: bool) -> u8
-    ensures { result ≡ status_served done.entry }
+fn served<R: AllocGlobal + Says>(rt: &R, done: Result<bool, Unserved<'_>>, why: bool) -> u8
+    ensures status { result ≡ status_served done.entry }
+    ensures told { IfFileRefused done.entry (λ refusal. R.tells rt.now (number_of_file refusal) why) }
 {
     match done {
         Ok(is_refused) => refused_status(is_refused),
@@ -216,8 +218,9 @@ fn served<R: AllocGlobal + Eprint>(rt: &R, done: Result<bool, Unserved<'_>>, why
 }
 
 /// Says why a desk can't be loaded from its file, and returns the exit status.
-fn complain_unloaded<R: AllocGlobal + Eprint>(rt: &R, file: &str, fault: LoadFault, why: bool) -> u8
-    ensures { result ≡ status_unloaded fault }
+fn complain_unloaded<R: AllocGlobal + Says>(rt: &R, file: &str, fault: LoadFault, why: bool) -> u8
+    ensures status { result ≡ status_unloaded fault }
+    ensures told { IfRefused fault (λ refusal. R.tells rt.now (number_of_file refusal) why) }
 {
     let status = unloaded_status(fault);
     let visible = visible_text(rt.alloc(), file);

@@ -1,6 +1,11 @@
-//! What is said on standard error: what was refused, where and why, and how much has been read. What can't be written there, or has
-//! no memory, is left out.
-ghost use Rattle.std.specs.Prelude.{◌≡◌};
+//! What is said besides the output: help, what was refused, where and why, and how much has been read. What can't be written to
+//! standard error, or has no memory, is left out.
+ghost use Rattle.std.specs.Prelude.{◌≡◌, ℕ, List, Bool, true, false, Some, None, IfOk, OnOk, OnErr};
+ghost use Rattle.std.specs.String.{string_bytes};
+ghost use Rattle.itip_desk.specs.Refusals.{number_of_file};
+ghost use Rattle.itip_message.specs.RefusalNumbers.{number_of};
+ghost use Rattle.itip_words.specs.declared.no_call.NoCall.{NoCall};
+ghost use Rattle.itip_app.specs.Said.{IsRefusedLine};
 
 use crate::filters::Named;
 use itip_desk::{FileRefusal, Refusal};
@@ -9,10 +14,74 @@ use itip_message::MessageRefusal;
 use itip_streams::{SourceName, refused_line};
 use itip_todo::PropertyName;
 use itip_view::MostRows;
-use itip_words::{Filter, most_line};
+use itip_words::{Filter, NoCall, most_line};
 use itip_world::Refused;
 use std::alloc::{AllocError, Global};
 use std::fmt::Display;
+use std::io;
+
+/// What the program says besides its output. Generic code knows nothing of these relations, so a function that ensures one must have made the call
+/// that tells it.
+pub(crate) trait Says: Print + Eprint {
+    /// Why nothing is run was said, or could not be.
+    ghost shows: { Self → NoCall → Bool → Type 0 };
+
+    /// It was asked what a watch is to say: causes if this flag is set, and none if it isn't.
+    ghost explains: { Self → Bool → Type 0 };
+
+    /// A refusal with this number was said: with its cause if this flag is set, and by its number alone if it isn't.
+    ghost tells: { Self → ℕ → Bool → Type 0 };
+
+    /// Prints the help that is asked for, or says what is wrong with the words.
+    fn show(&self, why: &NoCall) -> io::Result<()>
+        ensures shown { OnOk result (shows self.now why.now true) }
+        ensures unshown { OnErr result (shows self.now why.now false) };
+
+    /// Whether a watch is to say causes.
+    fn causes(&self, are_asked: bool) -> Causes
+        ensures known { explains self.now are_asked }
+        ensures flag { result.are_asked ≡ are_asked };
+
+    /// Says with which number something is refused, and with `why` for what. It has a name, or is a draft or a message to be written.
+    fn tell<T: Display>(&self, name: Option<&str>, number: u32, refusal: &T, why: bool)
+        ensures { tells self.now number why };
+}
+
+impl<R: Print + Eprint> Says for R {
+    ghost shows = { λ _ _ _. Unit {0} };
+
+    ghost explains = { λ _ _. Unit {0} };
+
+    ghost tells = { λ _ _ _. Unit {0} };
+
+    fn show(&self, why: &NoCall) -> io::Result<()> {
+        match why {
+            NoCall::Help(error) => error.print(self),
+            NoCall::Refused(error) => error.print(self),
+            NoCall::BadValue(text) => self.eprint(text),
+            NoCall::NoClock | NoCall::NoMemory => Ok(()),
+        }
+    }
+
+    fn causes(&self, are_asked: bool) -> Causes {
+        Causes { are_asked }
+    }
+
+    fn tell<T: Display>(&self, name: Option<&str>, number: u32, refusal: &T, why: bool) {
+        let _ = match (name, why) {
+            (Some(name), true) => eprintln!(self; "itipdesk: {name}: refused {number}: {refusal}"),
+            (Some(name), false) => eprintln!(self; "itipdesk: {name}: refused {number}"),
+            (None, true) => eprintln!(self; "itipdesk: refused {number}: {refusal}"),
+            (None, false) => eprintln!(self; "itipdesk: refused {number}"),
+        };
+    }
+}
+
+/// Whether a watch says where and why something was refused. Only [`Says::causes`] makes it.
+#[derive(Clone, Copy)]
+pub(crate) struct Causes {
+    are_asked: bool,
+}
 
 /// Names the refused messages of sources, and the to-do with the most rows if there are too many; and shows the progress of reading.
 #[derive(Drop)]
@@ -20,6 +89,7 @@ pub(crate) struct Teller<'a, R> {
     rt: &'a R,
     named: &'a Named,
     filter: &'a Filter,
+    causes: Causes,
     is_shown: bool,
     /// The place of the source that was opened last.
     opened: usize,
@@ -49,12 +119,16 @@ impl<'a, R: AllocGlobal + Eprint> Teller<'a, R> {
         rt: &'a R,
         named: &'a Named,
         filter: &'a Filter,
+        causes: Causes,
         is_terminal: bool,
-    ) -> Teller<'a, R> {
+    ) -> Teller<'a, R>
+        ensures { result.causes ≡ causes }
+    {
         Teller {
             rt,
             named,
             filter,
+            causes,
             is_shown: is_terminal || filter.intake.progress,
             opened: 0,
             progress: NO_PROGRESS,
@@ -82,11 +156,16 @@ impl<'a, R: AllocGlobal + Eprint> Teller<'a, R> {
         }
     }
 
-    fn line_of(&self, name: &SourceName, refused: &RefusedMessage) -> Result<String, AllocError> {
+    fn line_of(&self, name: &SourceName, refused: &RefusedMessage) -> Result<String, AllocError>
+        ensures bare { self.now.causes.are_asked ≡ false → IfOk result (λ line.
+            IsRefusedLine name.now refused.now None (string_bytes line)) }
+        ensures caused { self.now.causes.are_asked ≡ true → IfOk result (λ line. (cause : List ℕ) ×
+            IsRefusedLine name.now refused.now (Some cause) (string_bytes line)) }
+    {
         let alloc = self.rt.alloc();
         let refusal = Refusal::Message(refused.refusal);
         let number = refusal.number();
-        if !self.filter.intake.why {
+        if !self.causes.are_asked {
             return refused_line(alloc, name, refused.message, number, None);
         }
         let why = refusal.to_string(alloc)?;
@@ -114,7 +193,7 @@ impl<'a, R: AllocGlobal + Eprint> itip_inbox::Watch for Teller<'a, R> {
     }
 
     fn too_many_rows(&mut self, most: &MostRows) {
-        if self.filter.intake.why {
+        if self.causes.are_asked {
             self.say(line_of_most(self.rt.alloc(), self.filter.written.word(), most));
         }
     }
@@ -124,24 +203,24 @@ impl<'a, R: AllocGlobal + Eprint> itip_inbox::Watch for Teller<'a, R> {
 #[derive(Drop)]
 pub(crate) struct Explainer<'a, R> {
     rt: &'a R,
-    is_asked: bool,
+    causes: Causes,
     /// How many commands have been answered.
     answered: u64,
 }
 
 impl<'a, R: AllocGlobal + Eprint> Explainer<'a, R> {
-    pub(crate) fn new(rt: &'a R, is_asked: bool) -> Explainer<'a, R>
-        ensures { result.is_asked ≡ is_asked }
+    pub(crate) fn new(rt: &'a R, causes: Causes) -> Explainer<'a, R>
+        ensures { result.causes ≡ causes }
     {
         Explainer {
             rt,
-            is_asked,
+            causes,
             answered: 0,
         }
     }
 
     fn say(&self, name: &str, number: u64, refusal: Refusal) {
-        if self.is_asked {
+        if self.causes.are_asked {
             let shown = refusal.number();
             let _ = eprintln!(self.rt; "{name} {number}: refused {shown}: {refusal}");
         }
@@ -149,7 +228,7 @@ impl<'a, R: AllocGlobal + Eprint> Explainer<'a, R> {
 
     /// Says which to-do has the most rows, if that is asked for.
     fn say_most(&self, name: &str, number: u64, most: &MostRows) {
-        if self.is_asked {
+        if self.causes.are_asked {
             if let Ok(line) = self.line_of_most(name, number, most) {
                 let _ = eprintln!(self.rt; "{line}");
             }
@@ -163,7 +242,7 @@ impl<'a, R: AllocGlobal + Eprint> Explainer<'a, R> {
     }
 
     fn say_of_script(&self, refusal: Refusal) {
-        if self.is_asked {
+        if self.causes.are_asked {
             let shown = refusal.number();
             let _ = eprintln!(self.rt; "script: refused {shown}: {refusal}");
         }
@@ -230,20 +309,16 @@ pub(crate) fn warn<R: Eprint>(rt: &R, lacking: &[PropertyName]) {
 }
 
 /// Says with which number a draft or a message to be written is refused, and with `why` for what, and returns `status`.
-pub(crate) fn complain_refused<R: Eprint>(
+pub(crate) fn complain_refused<R: Says>(
     rt: &R,
     refusal: MessageRefusal,
     why: bool,
     status: u8,
 ) -> u8
-    ensures { result ≡ status }
+    ensures same { result ≡ status }
+    ensures told { R.tells rt.now (number_of refusal) why }
 {
-    let number = refusal.number();
-    if why {
-        let _ = eprintln!(rt; "itipdesk: refused {number}: {refusal}");
-    } else {
-        let _ = eprintln!(rt; "itipdesk: refused {number}");
-    }
+    rt.tell(None, refusal.number(), &refusal, why);
     status
 }
 
@@ -256,21 +331,17 @@ pub(crate) fn complain_of<R: Eprint>(rt: &R, name: &str, what: &str, status: u8)
 }
 
 /// Says with which number the file of a desk is refused, and with `why` for what, and returns `status`.
-pub(crate) fn complain_of_file<R: Eprint>(
+pub(crate) fn complain_of_file<R: Says>(
     rt: &R,
     name: &str,
     refusal: FileRefusal,
     why: bool,
     status: u8,
 ) -> u8
-    ensures { result ≡ status }
+    ensures same { result ≡ status }
+    ensures told { R.tells rt.now (number_of_file refusal) why }
 {
-    let number = refusal.number();
-    if why {
-        let _ = eprintln!(rt; "itipdesk: {name}: refused {number}: {refusal}");
-    } else {
-        let _ = eprintln!(rt; "itipdesk: {name}: refused {number}");
-    }
+    rt.tell(Some(name), refusal.number(), &refusal, why);
     status
 }
 

@@ -17,7 +17,7 @@ use Rattle.itip_state.proofs.Keeping.{kept_again, kept_same}
 use Rattle.itip_state.proofs.Members.{none_in, cons_cases, cons_first, cons_later, all_each}
 use Rattle.itip_desk.specs.Delta.{AreMessages, ReadsDelta}
 use Rattle.itip_desk.specs.Desk.{Shown, IsDeskOf, IsDeltaOf}
-use Rattle.itip_desk.specs.Heard.{Ticks}
+use Rattle.itip_desk.specs.Ticks.{Ticks}
 use Rattle.itip_desk.specs.DeskFile.{message_text, messages_text, moved_at, head_of, begins_text, HasNumber}
 use Rattle.itip_desk.specs.DeskFile.{NamesOtherForm, IsFileOf, IsTold, TellsDesk, AreAlike, RefusesFile, IfFileRefused}
 use Rattle.itip_desk.specs.FileReading.{IsHead, IsNoPart, moves_at, ReadsParts, TellsTick, TellsMove, FileSoFar, ReadsFile, IsDeskOfParts}
@@ -589,11 +589,13 @@ texts_read changed fit head is (item ∷ items) =
 pub file_messages : (octets : List ℕ) (desk : Shown) (batch : List Item) → TellsDesk octets desk → AscendOctets batch →
     SameItems batch desk.kept → ReadsDelta octets batch
 file_messages octets desk batch tells ascend same = record {
-  messages = messages_of octets;
   given = alone tells.file.items;
-  cut = cut_by_scan octets;
-  read = subst (λ (ts : List (List ℕ)). AreMessages ts (alone tells.file.items)) (sym (told_cut octets desk tells))
-      (texts_read desk.changed (fit octets desk tells) (head_of desk.tick tells.file.items) (is_head octets desk tells) tells.file.items);
+  reads = record {
+    messages = messages_of octets;
+    cut = cut_by_scan octets;
+    read = subst (λ (ts : List (List ℕ)). AreMessages ts (alone tells.file.items)) (sym (told_cut octets desk tells))
+        (texts_read desk.changed (fit octets desk tells) (head_of desk.tick tells.file.items) (is_head octets desk tells) tells.file.items);
+  };
   batch_is = subst (λ (is : List Item). IsItemsOf batch is) (sym (concat_alone tells.file.items)) (record {
     ascend = ascend;
     same = λ item. (

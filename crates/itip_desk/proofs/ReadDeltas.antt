@@ -144,10 +144,12 @@ concat_alone (item ∷ items) = ap (λ (is : List Item). item ∷ is) (concat_al
 
 pub written_read : (batch : List Item) → AscendOctets batch → ReadsDelta (delta_octets batch) batch
 written_read batch ascend = record {
-  messages = messages_of (delta_octets batch);
   given = alone batch;
-  cut = cut_by_scan (delta_octets batch);
-  read = subst (λ (ts : List (List ℕ)). AreMessages ts (alone batch)) (sym (messages_written batch)) (are_messages batch);
+  reads = record {
+    messages = messages_of (delta_octets batch);
+    cut = cut_by_scan (delta_octets batch);
+    read = subst (λ (ts : List (List ℕ)). AreMessages ts (alone batch)) (sym (messages_written batch)) (are_messages batch);
+  };
   batch_is = subst (λ (is : List Item). IsItemsOf batch is) (sym (concat_alone batch))
       (record { ascend = ascend; same = λ item. (λ h. h, λ h. h) });
 }
@@ -178,9 +180,11 @@ one_given (t ∷ ts) (x ∷ xs) (y ∷ ys) h k = ap (λ (z : List Item). z ∷ x
 
 pub one_batch : (bytes : List ℕ) (batch other : List Item) → ReadsDelta bytes batch → ReadsDelta bytes other → batch ≡ other
 one_batch bytes batch other a b =
-    let cut : a.messages ≡ b.messages = one_cut bytes a.messages b.messages a.cut b.cut in
+    let m = a.reads in
+    let n = b.reads in
+    let cut : m.messages ≡ n.messages = one_cut bytes m.messages n.messages m.cut n.cut in
     let same : all_of a.given ≡ all_of b.given =
-    ap all_of (one_given b.messages a.given b.given (subst (λ (ts : List (List ℕ)). AreMessages ts a.given) cut a.read) b.read) in
+    ap all_of (one_given n.messages a.given b.given (subst (λ (ts : List (List ℕ)). AreMessages ts a.given) cut m.read) n.read) in
     let is : IsItemsOf batch (all_of b.given) = subst (λ (all : List Item). IsItemsOf batch all) same a.batch_is in
     one_order batch other is.ascend b.batch_is.ascend
     (λ item. (λ h. (b.batch_is.same item).1 ((is.same item).0 h), λ h. (is.same item).1 ((b.batch_is.same item).0 h)))
@@ -205,8 +209,9 @@ apart_from (t ∷ ts) (x ∷ xs) f h (inr k) = apart_from ts xs f h.1 k.1
 
 pub delta_apart : (bytes : List ℕ) (batch : List Item) (f : MessageRefusal) → ReadsDelta bytes batch → RefusesDelta bytes f → ⊥
 delta_apart bytes batch f h k =
-    apart_from h.messages h.given f h.read (subst (λ (ts : List (List ℕ)). FirstRefused ts f)
-    (one_cut bytes k.messages h.messages k.cut h.cut) k.first)
+    let m = h.reads in
+    apart_from m.messages h.given f m.read (subst (λ (ts : List (List ℕ)). FirstRefused ts f)
+    (one_cut bytes k.messages m.messages k.cut m.cut) k.first)
 
 -- batches with equal bytes are equal
 pub known_by_octets : (a b : List Item) → AscendOctets a → AscendOctets b → delta_octets a ≡ delta_octets b → a ≡ b
@@ -253,10 +258,8 @@ pub ends_reading : (bytes rest : List ℕ) (items batch : List Item) → Continu
 ends_reading bytes rest items batch so_far none is =
     let all = so_far.read [] (subst (λ (ts : List (List ℕ)). AreMessages ts []) (sym none) tt) in
     record {
-      messages = messages_of bytes;
       given = all.0;
-      cut = cut_by_scan bytes;
-      read = all.1;
+      reads = record { messages = messages_of bytes; cut = cut_by_scan bytes; read = all.1 };
       batch_is =
           subst (λ (xs : List Item). IsItemsOf batch xs) (sym (all.2 ∙ append-nil items)) is;
     }

@@ -50,10 +50,8 @@ some_delta bytes =
           inl (
             batch.0,
             record {
-              messages = messages_of bytes;
               given = given.0;
-              cut = cut_by_scan bytes;
-              read = given.1;
+              reads = record { messages = messages_of bytes; cut = cut_by_scan bytes; read = given.1 };
               batch_is =
                   batch.1;
             },

@@ -2,14 +2,18 @@
 use Rattle.std.proofs.Common.{◌≡◌, ℕ, ◌<◌, ◌≤◌, List, [], ◌∷◌, ◌++◌, ◌↔◌, ◌⊎◌, inl, inr, refl, sym, ap, subst, ◌∙◌, append_assoc}
 use Rattle.std.proofs.Common.{append-nil, length, arith}
 use Rattle.std.specs.List.{Contains}
-use Rattle.std.proofs.lemmas.List.Elements.{Contains-append_left, Contains-push}
+use Rattle.std.proofs.lemmas.List.Elements.{Contains-append_left, Contains-append_right, Contains-push}
 use Rattle.itip_items.specs.KeyParts.{uid_of}
 use Rattle.itip_items.specs.declared.item.Item.{Item}
 use Rattle.itip_state.specs.Kept.{AreKept, IsKept, KeepSame, Moves, AreMoved, AreUidsOf, SameItems}
+use Rattle.itip_state.specs.Order.{IsBelow}
 use Rattle.itip_state.proofs.Keeping.{kept_again, kept_iff, kept_beside, kept_of_parts, covers_itself, covers_kept, are_kept_by}
+use Rattle.itip_state.proofs.Keeping.{same_absorbed}
+use Rattle.itip_state.proofs.Members.{cons_cases}
 use Rattle.itip_state.proofs.News.{MovesWhatItHas}
 use Rattle.itip_desk.specs.Desk.{Shown, CarriesAfter, IsDeskOf}
-use Rattle.itip_desk.specs.Heard.{heard, TickStep, Ticks, MovedAfter}
+use Rattle.itip_desk.specs.Heard.{heard, AreHeard}
+use Rattle.itip_desk.specs.Ticks.{TickStep, Ticks, MovedAfter}
 
 -- one more step is heard last
 pub heard-append : (steps : List (List Item)) (step : List Item) → heard (steps ++ step ∷ []) ≡ heard steps ++ step
@@ -237,3 +241,22 @@ pub same_heard : (steps others : List (List Item)) (start beginning : ℕ) (desk
 same_heard steps others start beginning desk other is_desk is_other same item =
     let iff = kept_iff (heard steps) (heard others) same item in
     (λ h. (is_other.kept item).1 (iff.0 ((is_desk.kept item).0 h)), λ h. (is_desk.kept item).1 (iff.1 ((is_other.kept item).0 h)))
+
+-- what one of the steps tells was heard
+heard_in : (steps : List (List Item)) (step : List Item) (item : Item) → Contains steps step → Contains step item →
+    Contains (heard steps) item
+heard_in [] step item there h = absurd (omega (arith, there.1))
+heard_in (first ∷ steps) step item there h = elim (cons_cases first steps step there) [
+  | inl same ↦ Contains-append_left first (heard steps) item (subst (λ (s : List Item). Contains s item) (sym same) h)
+  | inr later ↦ Contains-append_right first (heard steps) item (heard_in steps step item later h)
+]
+
+-- hearing again what was heard adds nothing to what is kept
+pub heard_below : (steps : List (List Item)) (start : ℕ) (desk : Shown) (batch : List Item) → IsDeskOf steps start desk →
+    AreHeard batch steps → IsBelow batch desk.kept
+heard_below steps start desk batch is told =
+    are_kept_by desk.kept (heard steps) (batch ++ desk.kept) (λ item.
+    let two = kept_of_parts batch (heard steps) batch desk.kept (covers_itself batch) (covers_kept desk.kept (heard steps) is.kept) item in
+    let once = kept_iff (batch ++ heard steps) (heard steps) (same_absorbed batch (heard steps)
+    (λ i h. let at = told i h in heard_in steps at.0 i at.1 at.2)) item in
+    (λ k. two.1 (once.1 k), λ k. once.0 (two.0 k))) is.kept

@@ -1,9 +1,12 @@
 -- Deltas: the canonical bytes of items, one after another, and the batch that bytes are read as (our own format).
 use Rattle.std.specs.Prelude.{◌≡◌, ℕ, ◌⊎◌, List, [], ◌∷◌, ◌++◌}
+use Rattle.itip_todo.specs.Limits.{present}
 use Rattle.itip_message.specs.Message.{ReadsMessage, RefusesMessage}
+use Rattle.itip_message.specs.Several.{AreMessagesWithin, ReadsMessagesWithin}
 use Rattle.itip_message.specs.declared.error.MessageRefusal.{MessageRefusal}
 use Rattle.itip_items.specs.declared.item.Item.{Item}
 use Rattle.itip_state.specs.Kept.{IsItemsOf}
+use Rattle.itip_desk.specs.Heard.{heard}
 use Rattle.itip_desk.specs.Octets.{AscendOctets}
 use Rattle.itip_message.specs.Cutting.{IsCutInto}
 use Rattle.itip_message.specs.Scanned.{messages_of}
@@ -21,26 +24,21 @@ pub record GivesBatch (text : List ℕ) (batch : List Item) : Type 0 where
 
 -- each of these texts is a message, read as the items in the same place
 abbrev pub AreMessages : List (List ℕ) → List (List Item) → Type 0
-AreMessages [] [] = Unit {0}
-AreMessages [] (items ∷ given) = ⊥
-AreMessages (text ∷ texts) [] = ⊥
-AreMessages (text ∷ texts) (items ∷ given) = ReadsMessage text items × AreMessages texts given
+AreMessages = AreMessagesWithin present
 
 -- the first of these texts that is not a message is refused for this cause
 abbrev pub FirstRefused : List (List ℕ) → MessageRefusal → Type 0
 FirstRefused [] fault = ⊥
 FirstRefused (text ∷ texts) fault = RefusesMessage text fault ⊎ (((items : List Item) × ReadsMessage text items) × FirstRefused texts fault)
 
+-- the items of all messages, heard one after another
 abbrev pub all_of : List (List Item) → List Item
-all_of [] = []
-all_of (items ∷ given) = items ++ all_of given
+all_of = heard
 
 -- the items of all messages in these bytes make this batch
 pub record ReadsDelta (bytes : List ℕ) (batch : List Item) : Type 0 where
-  pub messages : List (List ℕ)
   pub given : List (List Item)
-  pub cut : IsCutInto bytes messages
-  pub read : AreMessages messages given
+  pub reads : ReadsMessagesWithin present bytes given
   pub batch_is : IsItemsOf batch (all_of given)
 
 -- the first message in these bytes that is refused is refused for this cause

@@ -6,6 +6,7 @@ pub mod Entries
 pub mod Index
 pub mod Found
 pub mod Heard
+pub mod Ticks
 pub mod Desk
 pub mod Moves
 pub mod Delta

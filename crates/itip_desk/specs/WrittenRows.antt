@@ -3,9 +3,9 @@ use Rattle.std.specs.Prelude.{◌≡◌, ◌≤◌, ◌⊎◌, ℕ, List, ◌++�
 use Rattle.itip_streams.specs.Written.{AppendsFront, MovesOut}
 use Rattle.itip_view.specs.ByUid.{AreLeft, IsCountOf}
 use Rattle.itip_view.specs.Rows.{row_limit}
-use Rattle.itip_view.specs.declared.most.RowCount.TheVariants.{TooMany}
+use Rattle.itip_view.specs.declared.row_count.RowCount.TheVariants.{TooMany}
 use Rattle.itip_view.specs.declared.by_uid.RowsByUid.{RowsByUid}
-use Rattle.itip_view.specs.declared.most.MostRows.{MostRows}
+use Rattle.itip_view.specs.declared.row_count.MostRows.{MostRows}
 use Rattle.itip_view.specs.declared.row.Row.{Row}
 use Rattle.itip_desk.specs.Listed.{headed_text}
 use Rattle.itip_desk.specs.Refusals.{refused_text}

@@ -80,7 +80,7 @@ impl Desk {
     ghost use Rattle.itip_desk.specs.Desk.{IsDeskOf, IsDeltaOf, IsCarriedOn};
     ghost use Rattle.itip_desk.specs.Moves.{tick_at, AreMovesTo, CarriesLast};
     ghost use Rattle.itip_desk.specs.DeskFile.{IsTold};
-    ghost use Rattle.itip_desk.specs.Heard.{TickStep};
+    ghost use Rattle.itip_desk.specs.Ticks.{TickStep};
     ghost use Rattle.itip_state.specs.Order.{IsBelow};
     ghost use Rattle.std.specs.List.{Contains};
     ghost use Rattle.itip_view.specs.ByUid.{AreAsked, AreLeft, uids_of};

@@ -1,11 +1,16 @@
 //! The laws of convergence, of deltas and of a desk's file. Each function is empty: its contract is the law.
 ghost use Rattle.std.specs.Prelude.{◌≡◌, ◌⊎◌, List, ◌++◌, ℕ};
+ghost use Rattle.std.specs.List.{Contains};
+ghost use Rattle.itip_todo.specs.Limits.{before_ranges};
 ghost use Rattle.itip_items.specs.declared.item.Item.{Item};
-ghost use Rattle.itip_state.specs.Kept.{AreKept, SameItems};
+ghost use Rattle.itip_state.specs.Kept.{AreKept, SameItems, IsItemsOf};
+ghost use Rattle.itip_state.specs.Order.{IsBelow};
+ghost use Rattle.itip_message.specs.Several.{ReadsMessagesWithin};
 ghost use Rattle.itip_message.specs.declared.error.MessageRefusal.{MessageRefusal};
 ghost use Rattle.itip_desk.specs.Octets.{AscendOctets};
 ghost use Rattle.itip_desk.specs.Delta.{delta_octets, ReadsDelta, RefusesDelta};
-ghost use Rattle.itip_desk.specs.Heard.{heard, TellsAfter};
+ghost use Rattle.itip_desk.specs.Heard.{heard, AreHeard};
+ghost use Rattle.itip_desk.specs.Ticks.{TellsAfter};
 ghost use Rattle.itip_desk.specs.Desk.{Shown, IsDeskOf, IsDeltaOf};
 ghost use Rattle.itip_desk.specs.DeskFile.{TellsDesk, AreAlike, RefusesFile};
 ghost use Rattle.itip_desk.specs.declared.refusal.FileRefusal.{FileRefusal};
@@ -15,6 +20,15 @@ pub fn desks_converge()
     ensures { (steps others : List (List Item)) (start beginning : ℕ) (desk other : Shown) →
         IsDeskOf steps start desk → IsDeskOf others beginning other →
         SameItems (heard steps) (heard others) → SameItems desk.kept other.kept }
+{}
+
+/// A batch that a desk has heard, as one step or each of its items in some step, is below what the desk keeps: hearing it again adds
+/// nothing, so `take` doesn't refuse it (our own rule).
+pub fn heard_before_is_below()
+    ensures step { (steps : List (List Item)) (start : ℕ) (desk : Shown) (batch : List Item) →
+        IsDeskOf steps start desk → Contains steps batch → IsBelow batch desk.kept }
+    ensures items { (steps : List (List Item)) (start : ℕ) (desk : Shown) (batch : List Item) →
+        IsDeskOf steps start desk → AreHeard batch steps → IsBelow batch desk.kept }
 {}
 
 /// An older state of a desk, joined with the desk's delta since then, is what the desk keeps now. The same holds with everything that
@@ -31,6 +45,13 @@ pub fn delta_brings_up_to_date()
 /// What is written of a batch is read back as this batch.
 pub fn delta_read_again()
     ensures { (batch : List Item) → AscendOctets batch → ReadsDelta (delta_octets batch) batch }
+{}
+
+/// What was read as a delta before instances had ranges is read as a delta with the same items. Back then, each message was read within
+/// narrower limits (our own rule).
+pub fn deltas_are_read_as_before()
+    ensures { (bytes : List ℕ) (given : List (List Item)) (batch : List Item) →
+        ReadsMessagesWithin before_ranges bytes given → IsItemsOf batch (heard given) → ReadsDelta bytes batch }
 {}
 
 /// Bytes are read as one batch or refused for one cause, and never both.

@@ -29,7 +29,8 @@ pub use error::{DeskError, FileError};
 pub use file_reading::read_desk;
 pub use file_writing::write_desk;
 pub use laws::{
-    delta_brings_up_to_date, delta_read_again, desk_read_again, desks_converge, one_delta,
+    delta_brings_up_to_date, delta_read_again, deltas_are_read_as_before, desk_read_again,
+    desks_converge, heard_before_is_below, one_delta,
 };
 pub use listed::write_head;
 pub use listed_lines::heads_count_lines;

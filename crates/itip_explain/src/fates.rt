@@ -62,26 +62,26 @@ impl<'v, 'a, 't> Fates<'v, 'a, 't> {
     }
 
     /// What became of one of the told items.
-    pub(crate) fn fate(&self, item: &Item) -> Result<Fate, NoMemory>
+    pub(crate) fn fate(&self, item: &Item) -> Fate
         requires sound { IsSound self.now }
         requires heard { Contains (heard_by self.now) item.now }
-        ensures { IfOk result (IsFate (told_to self.now) item.now) }
+        ensures { IsFate (told_to self.now) item.now result }
     {
         let latest = self.latest.of_key(item);
         if latest.item.cmp_rev(item).is_gt() {
-            return Ok(Fate::OvertakenBy(latest.place));
+            return Fate::OvertakenBy(latest.place);
         }
         self.fate_of_best(item)
     }
 
     /// What became of an item that is the best of its key.
-    fn fate_of_best(&self, item: &Item) -> Result<Fate, NoMemory>
+    fn fate_of_best(&self, item: &Item) -> Fate
         requires sound { IsSound self.now }
         requires best { IsBest (heard_by self.now) item.now.key item.now }
-        ensures { IfOk result (IsFate (told_to self.now) item.now) }
+        ensures { IsFate (told_to self.now) item.now result }
     {
         match self.killer(item) {
-            Some(series) => Ok(Fate::VoidBy(self.place_of(series))),
+            Some(series) => Fate::VoidBy(self.place_of(series)),
             None => self.fate_of_kept(item),
         }
     }
@@ -110,17 +110,17 @@ impl<'v, 'a, 't> Fates<'v, 'a, 't> {
     }
 
     /// What became of a kept item.
-    fn fate_of_kept(&self, item: &Item) -> Result<Fate, NoMemory>
+    fn fate_of_kept(&self, item: &Item) -> Fate
         requires sound { IsSound self.now }
         requires kept { IsKept (heard_by self.now) item.now }
-        ensures { IfOk result (IsFate (told_to self.now) item.now) }
+        ensures { IsFate (told_to self.now) item.now result }
     {
         match &item.key {
-            Key::Series(_) => Ok(standing_fate(item.kind, Fate::CancelsToDo)),
-            Key::Instance(_, _) => Ok(self.override_fate(item, Fate::CancelsInstance)),
-            Key::Range(_, _) => Ok(self.override_fate(item, Fate::CancelsOnward)),
+            Key::Series(_) => standing_fate(item.kind, Fate::CancelsToDo),
+            Key::Instance(_, _) => self.override_fate(item, Fate::CancelsInstance),
+            Key::Range(_, _) => self.override_fate(item, Fate::CancelsOnward),
             Key::Answer(_, id, attendee) => self.answer_fate(item, id, attendee.as_str()),
-            Key::Refresh(_, id, _) => Ok(self.refresh_fate(item, id)),
+            Key::Refresh(_, id, _) => self.refresh_fate(item, id),
         }
     }
 
@@ -152,18 +152,13 @@ impl<'v, 'a, 't> Fates<'v, 'a, 't> {
     }
 
     /// What became of a kept answer or removal of an attendee, to an instance or to the to-do as a whole.
-    fn answer_fate(
-        &self,
-        item: &Item,
-        id: &Option<Moment>,
-        attendee: &str,
-    ) -> Result<Fate, NoMemory>
+    fn answer_fate(&self, item: &Item, id: &Option<Moment>, attendee: &str) -> Fate
         requires { IsSound self.now }
-        ensures { IfOk result (IsAnswerFate (told_to self.now) self.now.question.uid id.now attendee.now item.now) }
+        ensures { IsAnswerFate (told_to self.now) self.now.question.uid id.now attendee.now item.now result }
     {
-        match self.question.governing(id.as_ref())? {
-            Some(governing) => Ok(self.fate_under(governing, item, id, attendee)),
-            None => Ok(Fate::AboutNothing),
+        match self.question.governing(id.as_ref()) {
+            Some(governing) => self.fate_under(governing, item, id, attendee),
+            None => Fate::AboutNothing,
         }
     }
 

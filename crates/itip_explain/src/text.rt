@@ -22,8 +22,7 @@ use std::alloc::Global;
 /// attendee of an answer, a removal or a refresh request, with ASCII letters in lower case. S is the item's own SEQUENCE, T its DTSTAMP,
 /// and FATE what became of it: its [`Fate`](crate::Fate) in words. Fails only if an allocation fails.
 ///
-/// Told items are found by binary search, so twice as many take about twice the time. An answer to an instance that has no item of its
-/// own costs a list of that day's occurrences.
+/// Told items are found by binary search, and RDATE is sorted once, so twice as many of either take about twice the time.
 pub fn explanation(
     alloc: Global,
     uid: &Uid,
@@ -51,7 +50,7 @@ fn lines(
 {
     let mut text = Vec::new(alloc);
     for one in fates.told() {
-        let became = fates.fate(&one.item)?;
+        let became = fates.fate(&one.item);
         let line = line_of(alloc, names, one, became)?;
         text.extend_from_slice(line.as_str().as_bytes())?;
     }

@@ -2,7 +2,7 @@
 use Rattle.std.proofs.Common.{◌≡◌, ◌≤◌, ℕ, Bool, true, false, List, [], ◌∷◌, ◌++◌, map, refl, sym, ap, subst, inr, ◌∙◌}
 use Rattle.std.proofs.Common.{Some, arith, append_assoc}
 use Rattle.std.specs.Prelude.{codes, fold, option_and_then}
-use Rattle.std.specs.List.{flat_map, AllByRecursion}
+use Rattle.std.specs.List.{flat_map}
 use Rattle.std.proofs.lemmas.List.{map-append}
 use Rattle.json.specs.Json.{document, if_last, max_depth, value}
 use Rattle.json.specs.Print.{print_from, separator, token_text, ends, ArePrintable}
@@ -13,7 +13,7 @@ use Rattle.json.specs.Tree.{json_tokens, items_tokens, members_tokens, items_dep
 use Rattle.json.proofs.Printed.Tokens.{ends_push, tokens-print, tokens-print_spaced}
 use Rattle.json.proofs.Printed.Trees.{document-print, ArePrintable-json_tokens}
 use Rattle.itip_view.specs.declared.row.Row.{Row}
-use Rattle.itip_inbox.specs.Json.{HasSmallNumbers, array_text, items_of, json_text, members_of, object_behind, object_text, row_members, row_object}
+use Rattle.itip_inbox.specs.Json.{array_text, items_of, json_text, members_of, object_behind, object_text, row_members, row_object}
 use Rattle.itip_inbox.specs.Json.{rows_array}
 use Rattle.itip_inbox.specs.JsonTokens.{named_tokens}
 use Rattle.itip_inbox.proofs.JsonText.{members_are, row_ok, row_shallow}
@@ -129,15 +129,15 @@ last_gap : (rows : List Row) → AreGaps ((gap_behind rows, end_array) ∷ [])
 last_gap [] = (tt, tt)
 last_gap (row ∷ rows) = ((inr refl, tt), tt)
 
-rows_ok : (rows : List Row) → AllByRecursion HasSmallNumbers rows → ItemsHaveNumbers (items_of (map row_object rows))
-rows_ok [] small = tt
-rows_ok (row ∷ rows) small = (row_ok row small.0, rows_ok rows small.1)
+rows_ok : (rows : List Row) → ItemsHaveNumbers (items_of (map row_object rows))
+rows_ok [] = tt
+rows_ok (row ∷ rows) = (row_ok row, rows_ok rows)
 
 rows_shallow : (rows : List Row) → items_depth (items_of (map row_object rows)) ≤ 3
 rows_shallow [] = omega arith
 rows_shallow (row ∷ rows) = omega (arith, row_shallow row, rows_shallow rows)
 
-module _ (rows : List Row) (small : AllByRecursion HasSmallNumbers rows) where
+module _ (rows : List Row) where
   array_tokens : tokens (array_text rows) ≡ json_tokens (rows_array rows)
   array_tokens =
       let same : map (λ (p : Spaced). p.1) (array_spaced rows) ≡ json_tokens (rows_array rows) =
@@ -145,13 +145,13 @@ module _ (rows : List Row) (small : AllByRecursion HasSmallNumbers rows) where
       ap tokens (sym (array_print rows)) ∙
       tokens-print_spaced (array_spaced rows)
       (tt, gaps_append (flat_map row_spaced rows) ((gap_behind rows, end_array) ∷ []) (rows_gaps rows) (last_gap rows))
-      (subst ArePrintable (sym same) (ArePrintable-json_tokens (rows_array rows) (rows_ok rows small))) ∙ same
+      (subst ArePrintable (sym same) (ArePrintable-json_tokens (rows_array rows) (rows_ok rows))) ∙ same
 
   pub array_read : document (array_text rows) ≡ Some (rows_array rows)
   array_read =
       ap (λ (ts : List Token). option_and_then (λ p. if_last p.0 p.1) (value max_depth ts))
-      (array_tokens ∙ sym (tokens-print (json_tokens (rows_array rows)) (ArePrintable-json_tokens (rows_array rows) (rows_ok rows small)))) ∙
-      document-print (rows_array rows) (rows_ok rows small) (omega (arith, rows_shallow rows))
+      (array_tokens ∙ sym (tokens-print (json_tokens (rows_array rows)) (ArePrintable-json_tokens (rows_array rows) (rows_ok rows)))) ∙
+      document-print (rows_array rows) (rows_ok rows) (omega (arith, rows_shallow rows))
 
 -- the text of a list is that of its array, and a line break
 pub array_line : (rows : List Row) → json_text rows ≡ array_text rows ++ codes "\n"

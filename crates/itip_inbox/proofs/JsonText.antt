@@ -1,15 +1,14 @@
 -- Objects as they are written, and as they are read.
 use Rattle.std.proofs.Common.{◌≡◌, ◌==◌, true, false, ◌≤◌, ◌-◌, ℕ, length, take, drop, get_or, take_all, ap₂, List, [], ◌∷◌, ◌++◌, map, refl, sym, ap, subst, ◌∙◌, arith, append_assoc}
 use Rattle.std.proofs.Common.{Option, Some, None}
-use Rattle.std.specs.Prelude.{IfSome, codes, option_map}
-use Rattle.std.specs.List.{flat_map, AllByRecursion}
+use Rattle.std.specs.Prelude.{codes, option_map}
+use Rattle.std.specs.List.{flat_map}
 use Rattle.std.proofs.lemmas.Bool.{eqb-true, eqb-false}
 use Rattle.std.proofs.lemmas.List.{nil_from_length}
 use Rattle.std.proofs.lemmas.List.Concat.{flat_map-append}
 use Rattle.json.specs.Json.{string, array, object, document}
 use Rattle.json.specs.Token.{Token, begin_object, end_object, begin_array, end_array}
 use Rattle.json.specs.Tree.{json_tokens, items_tokens, members_tokens, depth, items_depth, HasNumbers, ItemsHaveNumbers}
-use Rattle.json.proofs.Printed.Decimals.{IsNumber-decimal}
 use Rattle.json.proofs.Printed.Trees.{document-print}
 use Rattle.std.specs.Io.KnownBytes.{Appends}
 use Rattle.itip_moment.specs.Shown.{shown_moment}
@@ -23,9 +22,10 @@ use Rattle.itip_view.specs.declared.row.Row.{Row}
 use Rattle.itip_view.specs.declared.row.ShownAttendee.{ShownAttendee}
 use Rattle.itip_view.proofs.FlatMap.{then_more}
 use Rattle.itip_inbox.specs.Json.{Member, members_of, items_of, number_json, text_json, attendee_object, row_object, object_text, object_behind}
-use Rattle.itip_inbox.specs.Json.{json_text, attendee_members, HasSmallNumbers, IsSmall}
+use Rattle.itip_inbox.specs.Json.{json_text, attendee_members}
 use Rattle.itip_inbox.specs.Csv.{row_name}
 use Rattle.itip_inbox.specs.JsonTokens.{named_tokens, attendee_tokens, member_tokens, opened_text, IsFrontOf}
+use Rattle.itip_inbox.proofs.Numerals.{IsNumber-numeral}
 use Rattle.itip_inbox.proofs.Pieces.{join_four, three_put}
 
 -- ---- tokens
@@ -90,18 +90,17 @@ array_written name attendees old t0 t1 t2 new first second third last =
 
 -- ---- what is read of an object
 
-number_ok : (n : Option ℕ) → IfSome n IsSmall → HasNumbers (number_json n)
-number_ok None small = tt
-number_ok (Some n) small = IsNumber-decimal n small
+number_ok : (n : Option ℕ) → HasNumbers (number_json n)
+number_ok None = tt
+number_ok (Some n) = IsNumber-numeral n
 
 text_ok : (text : Option (List ℕ)) → HasNumbers (text_json text)
 text_ok None = tt
 text_ok (Some text) = tt
 
-attendees_ok : (attendees : List ShownAttendee) → AllByRecursion (λ attendee. IfSome attendee.percent IsSmall) attendees →
-    ItemsHaveNumbers (items_of (map attendee_object attendees))
-attendees_ok [] small = tt
-attendees_ok (attendee ∷ attendees) small = ((tt, (tt, (number_ok attendee.percent small.0, tt))), attendees_ok attendees small.1)
+attendees_ok : (attendees : List ShownAttendee) → ItemsHaveNumbers (items_of (map attendee_object attendees))
+attendees_ok [] = tt
+attendees_ok (attendee ∷ attendees) = ((tt, (tt, (number_ok attendee.percent, tt))), attendees_ok attendees)
 
 flat : (n : Option ℕ) → depth (number_json n) ≡ 0
 flat None = refl
@@ -130,19 +129,19 @@ row_shallow row =
       flat row.progress,
     )
 
-pub row_ok : (row : Row) → HasSmallNumbers row → HasNumbers (row_object row)
-row_ok row small = (
+pub row_ok : (row : Row) → HasNumbers (row_object row)
+row_ok row = (
   tt,
   (
     text_ok (row_name row.id),
     (
-      IsNumber-decimal row.seq small.seq,
+      IsNumber-numeral row.seq,
       (
         text_ok (option_map status_text row.status),
         (
-          number_ok row.percent small.percent,
+          number_ok row.percent,
           (
-            number_ok row.priority small.priority,
+            number_ok row.priority,
             (
               text_ok (option_map shown_moment row.start),
               (
@@ -150,8 +149,8 @@ row_ok row small = (
                 (
                   text_ok row.summary,
                   (
-                    attendees_ok row.attendees small.attendees,
-                    (number_ok row.progress small.progress, tt),
+                    attendees_ok row.attendees,
+                    (number_ok row.progress, tt),
                   ),
                 ),
               ),
@@ -163,8 +162,8 @@ row_ok row small = (
   ),
 )
 
-pub object_read : (row : Row) → HasSmallNumbers row → document (object_text row) ≡ Some (row_object row)
-object_read row small = document-print (row_object row) (row_ok row small) (omega (arith, row_shallow row))
+pub object_read : (row : Row) → document (object_text row) ≡ Some (row_object row)
+object_read row = document-print (row_object row) (row_ok row) (omega (arith, row_shallow row))
 
 -- ---- the first rows
 

@@ -25,6 +25,7 @@ mod Sending
 mod Showing
 mod CsvText
 mod Pieces
+mod Numerals
 mod JsonText
 mod JsonArray
 mod Reporting

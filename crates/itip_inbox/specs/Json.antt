@@ -1,7 +1,7 @@
 -- Rows as JSON objects (RFC 8259; which members there are is our own format).
-use Rattle.std.specs.Prelude.{ℕ, ◌<◌, ◌^◌, IfSome, List, [], ◌∷◌, ◌++◌, map, Option, Some, None, codes, option_map}
-use Rattle.std.specs.Fmt.{decimal}
-use Rattle.std.specs.List.{flat_map, AllByRecursion}
+use Rattle.std.specs.Prelude.{ℕ, zero, suc, ◌+◌, List, [], ◌∷◌, ◌++◌, map, Option, Some, None, codes, option_map}
+use Rattle.std.specs.Int.Digits.{digits_of}
+use Rattle.std.specs.List.{flat_map}
 use Rattle.json.specs.Json.{Json, null, number, string, array, object, Items, no_items, item, Members, no_members, member}
 use Rattle.json.specs.Print.{print}
 use Rattle.json.specs.Tree.{json_tokens}
@@ -22,8 +22,13 @@ or_null json (Some x) = json x
 abbrev pub text_json : Option (List ℕ) → Json
 text_json text = or_null string text
 
+-- The decimal digits of a number, however large it is. Of one below 2^64 this is what `{}` writes.
+unfoldable pub numeral : ℕ → List ℕ
+numeral zero = 48 ∷ []
+numeral (suc n) = map (λ d. 48 + d) (digits_of 10 (suc n))
+
 abbrev pub number_json : Option ℕ → Json
-number_json n = or_null (λ (x : ℕ). number (decimal x)) n
+number_json n = or_null (λ (x : ℕ). number (numeral x)) n
 
 -- a name with its value
 abbrev pub Member : Type 0
@@ -49,7 +54,7 @@ attendee_object attendee = object (members_of (attendee_members attendee))
 
 abbrev pub name_members : Row → List Member
 name_members row =
-    (codes "uid", string row.uid) ∷ (codes "id", text_json (row_name row.id)) ∷ (codes "sequence", number (decimal row.seq)) ∷ []
+    (codes "uid", string row.uid) ∷ (codes "id", text_json (row_name row.id)) ∷ (codes "sequence", number (numeral row.seq)) ∷ []
 
 abbrev pub number_members : Row → List Member
 number_members row =
@@ -93,16 +98,3 @@ json_text (row ∷ rows) = codes "[\n" ++ (object_text row ++ (flat_map object_b
 abbrev pub array_text : List Row → List ℕ
 array_text [] = codes "[]"
 array_text (row ∷ rows) = codes "[\n" ++ (object_text row ++ (flat_map object_behind rows ++ codes "\n]"))
-
--- ---- what a row may have
-
-abbrev pub IsSmall : ℕ → Type 0
-IsSmall n = n < 2 ^ 64
-
--- the numbers of a row are below 2^64, as those of its types are
-pub record HasSmallNumbers (row : Row) : Type 0 where
-  pub seq : IsSmall row.seq
-  pub percent : IfSome row.percent IsSmall
-  pub priority : IfSome row.priority IsSmall
-  pub progress : IfSome row.progress IsSmall
-  pub attendees : AllByRecursion (λ (attendee : ShownAttendee). IfSome attendee.percent IsSmall) row.attendees

@@ -14,7 +14,8 @@ use std::alloc::Global;
 use std::io::{Read, Write};
 use std::thread::Threads;
 
-/// Reads sources to their ends and writes the bytes of what is kept of all their messages. Returns whether one was refused.
+/// Reads sources to their ends and writes the bytes of what is kept of all their messages that are not refused. Returns whether one was
+/// refused; a message that is too long is refused too.
 ///
 /// The bytes are those of a delta of the kept items, sorted by canonical bytes, each once. Once all sources are read, and before
 /// anything is written, `watch` is told of the refused messages in the order of the sources. On [`StreamFault::Read`] nothing has

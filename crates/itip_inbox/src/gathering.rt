@@ -6,8 +6,8 @@ ghost use Rattle.itip_inbox.specs.Inbox.{AreInputs, Holds};
 
 use crate::inbox::Inbox;
 use crate::open_inbox::OpenInbox;
-use crate::read::{Progress, hear_sources, read_sources};
 use crate::refused::RefusedMessage;
+use crate::source_reading::{Progress, hear_sources, read_sources};
 use crate::watch::Watch;
 use itip_streams::StreamFault;
 use itip_todo::Uid;

@@ -1,6 +1,7 @@
 //! Rows as JSON objects (RFC 8259).
-ghost use Rattle.std.specs.Prelude.{◌≡◌, ◌≢◌, ◌++◌, ◌∷◌, List, Some, codes, OnOk, OnErr, IfOk, IfErr};
-ghost use Rattle.std.specs.List.{flat_map, AllByRecursion};
+ghost use Rattle.std.specs.Prelude.{◌≡◌, ◌≢◌, ◌<◌, ◌^◌, ◌++◌, ◌∷◌, ℕ, List, Some, codes, OnOk, OnErr, IfOk, IfErr};
+ghost use Rattle.std.specs.Fmt.{decimal};
+ghost use Rattle.std.specs.List.{flat_map};
 ghost use Rattle.std.specs.Option.{option_copied, option_map};
 ghost use Rattle.std.specs.String.{string_bytes};
 ghost use Rattle.json.specs.Json.{document};
@@ -11,7 +12,7 @@ ghost use Rattle.itip_todo.specs.StatusText.{status_text};
 ghost use Rattle.itip_streams.specs.Written.{AppendsFront, MovesOut};
 ghost use Rattle.itip_view.specs.ByUid.{AreLeft};
 ghost use Rattle.itip_view.specs.declared.row.Row.{Row};
-ghost use Rattle.itip_inbox.specs.Json.{json_text, object_text, object_behind, text_json, number_json, array_text, rows_array, HasSmallNumbers};
+ghost use Rattle.itip_inbox.specs.Json.{json_text, object_text, object_behind, text_json, numeral, number_json, array_text, rows_array};
 ghost use Rattle.itip_inbox.specs.Json.{row_object, name_members, number_members, date_members, last_members};
 ghost use Rattle.itip_inbox.specs.JsonTokens.{named_tokens, attendee_tokens, IsFrontOf, opened_text};
 
@@ -129,7 +130,7 @@ fn write_names(alloc: Global, writer: &mut Writer, row: &Row) -> Result<(), Allo
     write_text(writer, "uid", Some(row.uid.as_str()))?;
     write_shown(writer, "id", &id)?;
     writer.key("sequence")?;
-    writer.u64(row.seq as u64)
+    write_digits(writer, row.seq as u64)
 }
 
 fn write_numbers(writer: &mut Writer, row: &Row) -> Result<(), AllocError>
@@ -250,15 +251,23 @@ fn write_number(writer: &mut Writer, name: &str, number: Option<u8>) -> Result<(
 {
     writer.key(name)?;
     match number {
-        Some(number) => writer.u64(number as u64),
+        Some(number) => write_digits(writer, number as u64),
         None => writer.null(),
     }
 }
 
-/// The object of a row is read as its members, and the text of a list, without its last line break, as the array of these objects
-/// (RFC 8259). The numbers of the rows have to be below 2^64, as those of their types are.
+fn write_digits(writer: &mut Writer, number: u64) -> Result<(), AllocError>
+    ensures tokens { OnOk result (writer.new.tokens ≡ writer.old.tokens ++ json_tokens (number_json (Some number))) }
+    ensures before { writer.new.before ≡ writer.old.before }
+{
+    writer.u64(number)
+}
+
+/// The object of a row is read as its members, and the text of a list, without its last line break, as the array of these
+/// objects (RFC 8259). The numerals in them are those that `{}` writes.
 pub fn objects_are_read()
-    ensures object { (row : Row) → HasSmallNumbers row → document (object_text row) ≡ Some (row_object row) }
-    ensures array { (rows : List Row) → AllByRecursion HasSmallNumbers rows → document (array_text rows) ≡ Some (rows_array rows) }
+    ensures object { (row : Row) → document (object_text row) ≡ Some (row_object row) }
+    ensures array { (rows : List Row) → document (array_text rows) ≡ Some (rows_array rows) }
     ensures line { (rows : List Row) → json_text rows ≡ array_text rows ++ codes "\n" }
+    ensures number { (n : ℕ) → n < 2 ^ 64 → decimal n ≡ numeral n }
 {}

@@ -9,7 +9,7 @@ ghost use Rattle.itip_inbox.specs.News.{AreLacking, IsNews};
 
 use crate::compaction::write_items;
 use crate::gathering::tell;
-use crate::read::{Progress, read_more};
+use crate::source_reading::{Progress, read_more};
 use crate::watch::Watch;
 use itip_state::{SharedItem, State, by_octets};
 use itip_streams::StreamFault;

@@ -24,17 +24,17 @@ mod laws;
 mod list_form;
 mod messages;
 mod open_inbox;
-mod read;
 mod refused;
+mod refused_rows;
 mod reports;
 mod row_texts;
 mod sent;
 mod shard;
 mod shards;
 mod shown;
+mod source_reading;
 mod tasks;
 mod texts;
-mod too_many;
 mod waiting;
 mod watch;
 
@@ -49,10 +49,10 @@ pub use laws::{
     only_items_matter, outputs_of_parts,
 };
 pub use list_form::{ListForm, PageList, TextList};
-pub use read::read_sources;
 pub use refused::RefusedMessage;
 pub use reports::report;
 pub use sent::{Sent, send};
 pub use shown::{MAX_OCTETS, TOO_LONG, check};
+pub use source_reading::read_sources;
 pub use tasks::list;
 pub use watch::Watch;

@@ -14,7 +14,7 @@ ghost use Rattle.itip_inbox.specs.Reports.{IsReport, IsReportText, IsReported, e
 
 use crate::gathering::gather;
 use crate::inbox::Inbox;
-use crate::too_many::refuse_rows;
+use crate::refused_rows::refuse_rows;
 use crate::watch::Watch;
 use itip_report::{ReportName, no_rows, report_lines};
 use itip_state::State;

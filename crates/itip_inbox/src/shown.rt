@@ -1,8 +1,9 @@
 //! A message, shown as its items.
-ghost use Rattle.std.specs.Prelude.{◌≡◌, ◌≢◌, ℕ, Bool, List, Some, IfOk, IfErr, OnErr, IsErrOf, IfSome};
+ghost use Rattle.std.specs.Prelude.{◌≡◌, ◌≢◌, ℕ, Bool, List, Some, IfOk, IfErr, OnOk, OnErr, IsErrOf, IfSome};
 ghost use Rattle.std.specs.Io.KnownBytes.{Keeps};
 ghost use Rattle.itip_message.specs.RefusalNumbers.{number_of};
 ghost use Rattle.itip_desk.specs.Refusals.{refused_text};
+ghost use Rattle.itip_streams.specs.Once.{FailsReading, ReadsWell};
 ghost use Rattle.itip_streams.specs.Written.{AppendsFront, WritesOutput};
 ghost use Rattle.itip_inbox.specs.Shown.{items_text, IsShown, IsShownAs};
 
@@ -11,7 +12,7 @@ use crate::watch::Watch;
 use itip_desk::{Batch, Refusal, read_batch, write_delta};
 use itip_lines::{LineCause, LineRefusal};
 use itip_message::{MessageRefusal, ReadError};
-use itip_streams::{StreamFault, read_within, write_output};
+use itip_streams::{ReadOnce, StreamFault, read_within, write_output};
 use std::alloc::{AllocError, Global};
 use std::io::{Read, Write};
 
@@ -27,10 +28,10 @@ pub const TOO_LONG: LineRefusal = LineRefusal {
 /// Reads one message and writes `items N` and the canonical bytes of its N items, sorted by these bytes, each once; or `refused N` if
 /// the text is no message. A text of more than 1,048,576 bytes is `refused 1`. Returns whether it was refused.
 ///
-/// Once a refusal is written, `watch` is told of it, as that of message 1 of source 0. On [`StreamFault::Read`], which is also returned
-/// when [`MAX_READS`](itip_streams::MAX_READS) reads are not enough, nothing has been written; on another error a prefix of the output
-/// has been.
-pub fn check<R: Read, W: Write, S: Watch>(
+/// Once a refusal is written, `watch` is told of it, as that of message 1 of source 0. If it returns `Ok`, no read failed. On
+/// [`StreamFault::Read`], which is also returned when [`MAX_READS`](itip_streams::MAX_READS) reads are not enough, nothing has been
+/// written; if a read failed, it was the last. On another error a prefix of the output has been written.
+pub fn check<R: Read + ReadOnce, W: Write, S: Watch>(
     alloc: Global,
     reader: &mut R,
     writer: &mut W,
@@ -42,6 +43,8 @@ pub fn check<R: Read, W: Write, S: Watch>(
         IsShown text shown refused → AppendsFront (W.contents writer.old) (W.contents writer.new) shown)) }
     ensures unread { IsErrOf result StreamFault.Read → Keeps (W.contents writer.old) (W.contents writer.new) }
     ensures untold { OnErr result (watch.new ≡ watch.old) }
+    ensures well { OnOk result (ReadsWell R.reads reader.old reader.new) }
+    ensures failed { IsErrOf result StreamFault.Read → FailsReading R.reads reader.old reader.new }
 {
     let shown = read_shown(alloc, reader)?;
     write_output(writer, shown.text.as_slice())?;
@@ -62,9 +65,11 @@ struct Shown {
     refusal: Option<MessageRefusal>,
 }
 
-fn read_shown<R: Read>(alloc: Global, reader: &mut R) -> Result<Shown, StreamFault>
+fn read_shown<R: Read + ReadOnce>(alloc: Global, reader: &mut R) -> Result<Shown, StreamFault>
     ensures shown { IfOk result (λ shown. IfSome (R.remaining reader.old) (λ text. IsShownAs text shown.refusal shown.text.items)) }
     ensures fault { IfErr result (λ fault. fault ≢ StreamFault.Write) }
+    ensures well { OnOk result (ReadsWell R.reads reader.old reader.new) }
+    ensures failed { IsErrOf result StreamFault.Read → FailsReading R.reads reader.old reader.new }
 {
     match read_within(alloc, reader, MAX_OCTETS)? {
         Some(text) => shown_of(alloc, text.as_slice()),

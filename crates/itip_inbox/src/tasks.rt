@@ -10,7 +10,7 @@ ghost use Rattle.itip_inbox.specs.TaskList.{IsTaskList, IsListed};
 use crate::gathering::gather;
 use crate::inbox::Inbox;
 use crate::list_form::ListForm;
-use crate::too_many::refuse_rows;
+use crate::refused_rows::refuse_rows;
 use crate::watch::Watch;
 use itip_streams::StreamFault;
 use itip_view::{RowCount, RowsByUid, Wanted, Window};

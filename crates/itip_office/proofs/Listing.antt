@@ -8,7 +8,7 @@ use Rattle.std.proofs.KnownBytes.{Appends-nil, Appends-trans}
 use Rattle.std.proofs.Math.Bool.{or-false}
 use Rattle.itip_view.specs.ByUid.{AreAsked}
 use Rattle.itip_view.specs.declared.by_uid.RowsByUid.{RowsByUid}
-use Rattle.itip_view.specs.declared.most.MostRows.{MostRows}
+use Rattle.itip_view.specs.declared.row_count.MostRows.{MostRows}
 use Rattle.itip_view.specs.declared.row.Row.{Row}
 use Rattle.itip_view.specs.declared.window.Window.{Window}
 use Rattle.itip_view.proofs.Left.{left_where, too_many_where}

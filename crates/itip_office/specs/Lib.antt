@@ -1,4 +1,5 @@
 pub use Rattle.itip_desk.specs.Heard
+pub use Rattle.itip_desk.specs.Ticks
 pub use Rattle.itip_desk.specs.Desk
 pub use Rattle.itip_state.specs.Kept
 pub mod Numbers
@@ -7,6 +8,7 @@ pub mod Answers
 pub mod Taken
 pub mod Seen
 pub mod Steps
+pub mod Sending
 pub mod Merged
 pub mod Published
 pub mod Pairs

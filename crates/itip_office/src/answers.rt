@@ -1,5 +1,5 @@
 //! The answers of a loop.
-ghost use Rattle.std.specs.Prelude.{◌≡◌, ◌++◌, ◌∷◌, [], OnOk, IsErrOf, option_to_list};
+ghost use Rattle.std.specs.Prelude.{◌≡◌, ◌≢◌, ◌++◌, ◌∷◌, [], OnOk, IfErr, IsErrOf, option_to_list};
 
 use crate::error::OfficeError;
 use crate::gate::Gate;
@@ -18,6 +18,7 @@ pub(crate) fn keep_answer<N: Pairs, G: Gate>(
     ensures answers { OnOk result (found.new.0.items ≡ found.old.0.items ++ answer ∷ []) }
     ensures sources { OnOk result (found.new.1.items ≡ found.old.1.items ++ option_to_list source) }
     ensures closed { IsErrOf result OfficeError.GateClosed → G.may_close }
+    ensures channel { IfErr result (λ e. e ≢ OfficeError.ChannelClosed) }
 {
     let number = answer.0.number;
     push_some(&mut found.1, source)?;

@@ -4,6 +4,7 @@ ghost use Rattle.itip_desk.specs.Desk.{Shown};
 ghost use Rattle.itip_running.specs.declared.keeper.Keeper.{Keeper};
 ghost use Rattle.itip_office.specs.Texts.{Merges};
 ghost use Rattle.itip_office.specs.Answers.{AnswersMerged};
+ghost use Rattle.itip_office.specs.Exchanged.{AreNoLoops};
 ghost use Rattle.itip_office.specs.Seen.{IsOneOf};
 ghost use Rattle.itip_office.specs.Merged.{IsIdle, ShowsOne, GrewShown, TookText, GrewTexts, MergedOne};
 
@@ -42,6 +43,7 @@ pub fn keeper_loop<N: Pairs, R: AllocGlobal + Wait, G: Gate>(
     ensures published { IfOk result (λ r. GrewShown desk (IsOneOf r.3.items) shown r.1 r.2.items) }
     ensures nothing { IfOk result (λ r. IsIdle r.1) }
     ensures closed { IsErrOf result OfficeError.GateClosed → G.may_close }
+    ensures channel { IfErr result (λ e. e ≢ OfficeError.ChannelClosed) }
 {
     let mut texts = texts;
     let mut shown = shown;
@@ -67,6 +69,7 @@ fn merge_all<N: Pairs, R: AllocGlobal + Wait, G: Gate>(
     ensures published { IfOk result (λ r. GrewShown desk (IsOneOf r.1.items) shown.old shown.new r.0.items) }
     ensures nothing { OnOk result (IsIdle shown.new) }
     ensures closed { IsErrOf result OfficeError.GateClosed → G.may_close }
+    ensures channel { IfErr result (λ e. e ≢ OfficeError.ChannelClosed) }
 {
     let answers = Vec::new(rt.alloc());
     let sources = Vec::new(rt.alloc());
@@ -98,6 +101,7 @@ fn merge_some<N: Pairs, R: Wait, G: Gate>(
         GrewShown desk (IsOneOf found.new.1.items) first shown.new found.new.0.items) }
     ensures nothing { OnOk result (IsIdle shown.new) }
     ensures closed { IsErrOf result OfficeError.GateClosed → G.may_close }
+    ensures channel { IfErr result (λ e. e ≢ OfficeError.ChannelClosed) }
 {
     for merge in some {
         let (answer, source) = merge_one(rt, desk, texts, shown, merge, gate)?;
@@ -117,6 +121,7 @@ fn merge_one<N: Pairs, R: Wait, G: Gate>(
     requires nothing { IsIdle shown.old }
     ensures merged { IfOk result (λ r. MergedOne desk (IsOneOf (option_to_list r.1)) texts.old texts.new shown.old shown.new r.0) }
     ensures closed { IsErrOf result OfficeError.GateClosed → G.may_close }
+    ensures channel { IfErr result (λ e. e ≢ OfficeError.ChannelClosed) }
 {
     let (job, batch, source) = merge.into_parts();
     match merge_batch(rt, desk, texts, shown, &job, batch, gate) {
@@ -145,6 +150,7 @@ fn merge_batch<R: Wait, G: Gate>(
     ensures texts { OnOk result (TookText job.now.work texts.old texts.new batch) }
     ensures shown { OnOk result (ShowsOne job.now.work shown.old shown.new batch) }
     ensures closed { IsErrOf result OfficeError.GateClosed → G.may_close }
+    ensures channel { IfErr result (λ e. e ≢ OfficeError.ChannelClosed) }
 {
     if !gate.keeper(desk, job.number) {
         return Err(OfficeError::GateClosed);
@@ -158,7 +164,7 @@ fn merge_batch<R: Wait, G: Gate>(
 /// Has the desk of texts take the batch of a text; the batch of any other job is left out.
 fn take_text(texts: &mut Desk, work: &Work, batch: &Batch) -> Result<(), OfficeError>
     ensures took { OnOk result (TookText work.now texts.old texts.new batch.now) }
-    ensures open { IfErr result (λ e. e ≢ OfficeError.GateClosed) }
+    ensures causes { IfErr result AreNoLoops }
 {
     match work {
         Work::Text { .. } => match texts.take(batch) {
@@ -180,7 +186,7 @@ fn show<R: Wait>(
 ) -> Result<(), OfficeError>
     requires nothing { IsIdle shown.old }
     ensures shows { OnOk result (ShowsOne work.now shown.old shown.new batch) }
-    ensures open { IfErr result (λ e. e ≢ OfficeError.GateClosed) }
+    ensures causes { IfErr result AreNoLoops }
 {
     match shown {
         None => {

@@ -1,20 +1,22 @@
 //! The loop of a worker.
 ghost use Rattle.std.specs.Prelude.{◌≡◌, ◌≢◌, length, All, IfOk, OnOk, IfErr, IfSome, IsErrOf, option_to_list};
 ghost use Rattle.itip_office.specs.declared.job.Work.TheVariants.{Text, Carry, Look};
+ghost use Rattle.itip_office.specs.Exchanged.{AreNoLoops};
 ghost use Rattle.itip_office.specs.Seen.{IsOneOf, IsAnswered};
 ghost use Rattle.itip_office.specs.Steps.{IsStepOf, HasSeen};
 
 use crate::answers::keep_answer;
 use crate::error::OfficeError;
 use crate::gate::Gate;
-use crate::hands::Hands;
 use crate::job::{Job, Work};
 use crate::merge::Merge;
 use crate::outcome::Outcome;
+use crate::outlet::Outlet;
 use crate::pairs::Pairs;
 use crate::seat::Seat;
 use crate::source::Source;
-use crossbeam_channel::{Receiver, Sender};
+use crate::to_keepers::Hands;
+use crossbeam_channel::Receiver;
 use itip_desk::{Batch, Refusal, read_batch};
 use itip_message::ReadError;
 use itip_running::PassError;
@@ -38,19 +40,20 @@ pub(crate) enum Step {
 ///
 /// Ends early if an allocation fails (40), if a keeper isn't there (41), if the gate is closed (42), if a keeper takes nothing more (43),
 /// or if a pass is refused entry or isn't there (45). The seats are dropped at the end.
-pub fn worker_loop<N: Pairs, R: AllocGlobal + Wait, G: Gate>(
+pub fn worker_loop<N: Pairs, R: AllocGlobal + Wait, G: Gate, W: Outlet<Message = Vec<Merge<N>>>>(
     rt: &R,
     desks: usize,
     seats: Vec<Seat<N>>,
     jobs: Receiver<Job>,
-    keepers: Vec<Sender<Vec<Merge<N>>>>,
+    keepers: Vec<W>,
     gate: &G,
 ) -> Result<(Vec<(Job, Outcome)>, Vec<Source<N>>), OfficeError>
     ensures answered { IfOk result (λ r. All (IsAnswered desks (IsOneOf r.1.items)) r.0.items) }
     ensures closed { IsErrOf result OfficeError.GateClosed → G.may_close }
+    ensures ended { IsErrOf result OfficeError.ChannelClosed → W.may_close }
 {
     let mut seats = seats;
-    let mut hands = Hands::new(rt.alloc(), desks, keepers, gate.may_wait())?;
+    let mut hands: Hands<N, W> = Hands::new(rt.alloc(), desks, keepers, gate.may_wait())?;
     let answers = Vec::new(rt.alloc());
     let sources = Vec::new(rt.alloc());
     let mut found = (answers, sources);
@@ -67,11 +70,11 @@ pub fn worker_loop<N: Pairs, R: AllocGlobal + Wait, G: Gate>(
 }
 
 // Takes jobs until their channel is closed, then hands on what is left. Appends what it finds to `found`.
-fn answer_all<N: Pairs, R: AllocGlobal + Wait, G: Gate>(
+fn answer_all<N: Pairs, R: AllocGlobal + Wait, G: Gate, W: Outlet<Message = Vec<Merge<N>>>>(
     rt: &R,
     seats: &mut [Seat<N>],
     desks: usize,
-    hands: &mut Hands<N>,
+    hands: &mut Hands<N, W>,
     jobs: &Receiver<Job>,
     gate: &G,
     found: &mut (Vec<(Job, Outcome)>, Vec<Source<N>>),
@@ -79,6 +82,7 @@ fn answer_all<N: Pairs, R: AllocGlobal + Wait, G: Gate>(
     ensures answered { OnOk result (All (IsAnswered desks (IsOneOf found.old.1.items)) found.old.0.items →
         All (IsAnswered desks (IsOneOf found.new.1.items)) found.new.0.items) }
     ensures closed { IsErrOf result OfficeError.GateClosed → G.may_close }
+    ensures ended { IsErrOf result OfficeError.ChannelClosed → W.may_close }
 {
     for _ in rt.forever() {
         let Ok(job) = jobs.recv(rt) else {
@@ -91,11 +95,11 @@ fn answer_all<N: Pairs, R: AllocGlobal + Wait, G: Gate>(
 }
 
 // Does a job, if the gate lets it through.
-fn answer_one<N: Pairs, R: AllocGlobal + Wait, G: Gate>(
+fn answer_one<N: Pairs, R: AllocGlobal + Wait, G: Gate, W: Outlet<Message = Vec<Merge<N>>>>(
     rt: &R,
     seats: &mut [Seat<N>],
     desks: usize,
-    hands: &mut Hands<N>,
+    hands: &mut Hands<N, W>,
     job: Job,
     gate: &G,
     found: &mut (Vec<(Job, Outcome)>, Vec<Source<N>>),
@@ -103,6 +107,7 @@ fn answer_one<N: Pairs, R: AllocGlobal + Wait, G: Gate>(
     ensures answered { OnOk result (All (IsAnswered desks (IsOneOf found.old.1.items)) found.old.0.items →
         All (IsAnswered desks (IsOneOf found.new.1.items)) found.new.0.items) }
     ensures closed { IsErrOf result OfficeError.GateClosed → G.may_close }
+    ensures ended { IsErrOf result OfficeError.ChannelClosed → W.may_close }
 {
     if !gate.worker(job.number) {
         return Err(OfficeError::GateClosed);
@@ -116,15 +121,16 @@ fn answer_one<N: Pairs, R: AllocGlobal + Wait, G: Gate>(
 
 // The job with its outcome and what it had seen, or `None` if it is handed on. Before a pass looks or carries, what was read so far is
 // handed on.
-fn do_job<N: Pairs, R: AllocGlobal + Wait>(
+fn do_job<N: Pairs, R: AllocGlobal + Wait, W: Outlet<Message = Vec<Merge<N>>>>(
     rt: &R,
     seats: &mut [Seat<N>],
     desks: usize,
-    hands: &mut Hands<N>,
+    hands: &mut Hands<N, W>,
     job: Job,
 ) -> Result<Option<((Job, Outcome), Option<Source<N>>)>, OfficeError>
     ensures answered { IfOk result (λ done. IfSome done (λ d. IsAnswered desks (IsOneOf (option_to_list d.1)) d.0)) }
     ensures open { IfErr result (λ e. e ≢ OfficeError.GateClosed) }
+    ensures ended { IsErrOf result OfficeError.ChannelClosed → W.may_close }
 {
     if job.needs_pass() {
         hands.send_all(rt)?;
@@ -148,7 +154,7 @@ fn step_of<N: Pairs>(
 ) -> Result<(Step, Option<Source<N>>), OfficeError>
     ensures step { IfOk result (λ r. IsStepOf desks work.now r.0) }
     ensures seen { IfOk result (λ r. HasSeen desks (IsOneOf (option_to_list r.1)) work.now r.0) }
-    ensures open { IfErr result (λ e. e ≢ OfficeError.GateClosed) }
+    ensures causes { IfErr result AreNoLoops }
 {
     match work {
         Work::Text { desk, bytes } => {
@@ -162,7 +168,7 @@ fn step_of<N: Pairs>(
 
 fn read_text(alloc: Global, desks: usize, at: u64, bytes: &[u8]) -> Result<Step, OfficeError>
     ensures step { IfOk result (IsStepOf desks (Text at bytes.now)) }
-    ensures open { IfErr result (λ e. e ≢ OfficeError.GateClosed) }
+    ensures causes { IfErr result AreNoLoops }
 {
     let desk = at as usize;
     if desk >= desks {
@@ -184,7 +190,7 @@ fn carry<N: Pairs>(
 ) -> Result<(Step, Option<Source<N>>), OfficeError>
     ensures step { IfOk result (λ r. IsStepOf desks (Carry from to) r.0) }
     ensures seen { IfOk result (λ r. HasSeen desks (IsOneOf (option_to_list r.1)) (Carry from to) r.0) }
-    ensures open { IfErr result (λ e. e ≢ OfficeError.GateClosed) }
+    ensures causes { IfErr result AreNoLoops }
 {
     let (start, end) = (from as usize, to as usize);
     if start >= desks {
@@ -214,7 +220,7 @@ fn look<N: Pairs>(
 ) -> Result<(Step, Option<Source<N>>), OfficeError>
     ensures step { IfOk result (λ r. IsStepOf desks (Look desk window) r.0) }
     ensures seen { IfOk result (λ r. HasSeen desks (IsOneOf (option_to_list r.1)) (Look desk window) r.0) }
-    ensures open { IfErr result (λ e. e ≢ OfficeError.GateClosed) }
+    ensures causes { IfErr result AreNoLoops }
 {
     let place = desk as usize;
     if place >= desks {
@@ -243,7 +249,7 @@ fn refused(refusal: Refusal) -> Step
 // Why a worker ends if a pass fails for anything but too many rows.
 fn error_of(error: PassError) -> OfficeError
     requires { error ≢ PassError.TooManyRows }
-    ensures { result ≢ OfficeError.GateClosed }
+    ensures { AreNoLoops result }
 {
     match error {
         PassError::NoMemory | PassError::NoListMemory => OfficeError::NoMemory,

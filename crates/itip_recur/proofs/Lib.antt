@@ -23,6 +23,7 @@ pub mod WaitDays
 pub mod UnitWalks
 pub mod Anniversaries
 pub mod Ascents
+pub mod AskedDays
 pub mod PeriodWalks
 pub mod NamedDays
 pub mod MovedWalks

@@ -3,6 +3,7 @@ pub mod Pattern
 pub mod Sets
 pub mod Members
 pub mod Walk
+pub mod RuleDays
 pub mod Waits
 pub mod Counting
 pub mod Months

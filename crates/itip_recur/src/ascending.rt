@@ -16,7 +16,7 @@ pub(crate) struct Ascending {
 }
 
 impl Ascending {
-    ghost use Rattle.std.specs.Prelude.{◌≡◌, ◌↔◌, ◌<ℤ◌, [], IfOk};
+    ghost use Rattle.std.specs.Prelude.{◌≡◌, ◌↔◌, ◌<ℤ◌, [], IsTrue, IfOk};
     ghost use Rattle.std.specs.List.{Contains};
     ghost use Rattle.itip_moment.specs.declared.moment.Moment.{Moment};
     ghost use Rattle.itip_moment.specs.Moment.{moment_day};
@@ -38,6 +38,13 @@ impl Ascending {
         moments.sort()?;
         moments.dedup();
         Ok(Ascending { moments })
+    }
+
+    /// Whether a moment is among them.
+    pub(crate) fn has(&self, moment: &Moment) -> bool
+        ensures { IsTrue result ↔ Contains self.now.moments.items moment.now }
+    {
+        self.moments.binary_search(moment).is_ok()
     }
 
     /// Adds a moment of a later day than all others; `TooMany` if there are then more than `limit`.

@@ -117,8 +117,8 @@ fn is_in(day: i32, from: i32, to: i32) -> bool
     from <= day && day < to
 }
 
-// Whether the start is a member: COUNT counts it, and UNTIL may lie before it.
-fn is_member(rule: &Option<Rule>, start: &Moment) -> bool
+/// Whether the start is a member: COUNT counts it, and UNTIL may lie before it.
+pub(crate) fn is_member(rule: &Option<Rule>, start: &Moment) -> bool
     ensures { IsTrue result ↔ IsRuleMember rule.now start.now start.now }
 {
     match rule {

@@ -32,7 +32,7 @@ pub(crate) fn in_pattern(rule: &Rule, start: i32, day: i32) -> bool
 {
     let interval = rule.interval as u32;
     unit_number(rule, day) % interval == unit_number(rule, start) % interval
-        && is_selected(&rule.frequency, start, day)
+        && is_selected(&rule.frequency, &DaySets::of(&rule.frequency), start, day)
 }
 
 pub(crate) fn unit_number(rule: &Rule, day: i32) -> u32
@@ -48,12 +48,13 @@ pub(crate) fn unit_number(rule: &Rule, day: i32) -> u32
     }
 }
 
-fn is_selected(frequency: &Frequency, start: i32, day: i32) -> bool
+/// Whether the rule selects a day in its unit; `sets` are its lists.
+pub(crate) fn is_selected(frequency: &Frequency, sets: &DaySets, start: i32, day: i32) -> bool
+    requires sets { AreSetsOf frequency.now sets.now }
     requires start_in { IsDayNumber start }
     requires day_in { IsDayNumber day }
     ensures { IsTrue result ↔ IsSelected frequency.now start day }
 {
-    let sets = DaySets::of(frequency);
     match frequency {
         Frequency::Daily => true,
         Frequency::Weekly(days) => is_week_day(days, sets.days, start, day),
@@ -65,7 +66,7 @@ fn is_selected(frequency: &Frequency, start: i32, day: i32) -> bool
         ),
         Frequency::Yearly(days) => is_year_day(
             days,
-            &sets,
+            sets,
             &CalendarDay::new(start),
             &CalendarDay::new(day),
         ),

@@ -114,3 +114,8 @@ module _ (address : List ℕ) (part all : List Item) (window : Window) (same : H
     holds = are.holds;
     all = λ row is shows. are.all row ((same window row shows).1 is) shows;
   }
+
+-- nothing is kept of nothing
+pub none_kept : (kept : List Item) → AreKept kept [] → kept ≡ []
+none_kept [] are = refl
+none_kept (x ∷ kept) are = absurd (none_in x ((are x).0 (cons_first x kept)).best.is_heard)

@@ -4,7 +4,8 @@ use Rattle.std.specs.List.{Contains}
 use Rattle.itip_items.specs.KeyParts.{uid_of}
 use Rattle.itip_items.specs.declared.item.Item.{Item}
 use Rattle.itip_state.specs.Kept.{IsKept}
-use Rattle.itip_desk.specs.Heard.{heard, MovedAfter}
+use Rattle.itip_desk.specs.Heard.{heard}
+use Rattle.itip_desk.specs.Ticks.{MovedAfter}
 use Rattle.itip_desk.specs.Octets.{AscendOctets}
 
 -- The kept items of the UIDs that moved in a step that left the tick above `since`, by canonical bytes, each once. The steps began at

@@ -1,4 +1,5 @@
 pub use Rattle.itip_desk.specs.Heard
+pub use Rattle.itip_desk.specs.Ticks
 pub use Rattle.itip_desk.specs.Desk
 pub use Rattle.itip_view.specs.Rows
 pub use Rattle.itip_view.specs.ListText
@@ -8,4 +9,4 @@ pub mod Deltas
 pub mod Parts
 pub mod History
 pub mod Pair
-pub mod Ends
+pub mod Seen

@@ -16,7 +16,7 @@ pub enum LiveError {
     NoMemory,
     /// The pair gave no place to a reader, or there were not one to eight passes; or a pass is ahead of its keeper, or a group can't be
     /// added to the history, which no run of one pair meets (41).
-    #[error("no place at a running desk")]
+    #[error("no place at a running desk, or not one to eight passes")]
     NoPlace,
     /// The number of published batches would exceed `u64::MAX` (21).
     #[error("no further batch can be counted")]
@@ -41,7 +41,7 @@ pub enum PassError {
     #[error("no memory to list")]
     NoListMemory,
     /// An allocation failed for a delta or for kept items (40).
-    #[error("no memory for a delta")]
+    #[error("no memory for a delta or for kept items")]
     NoMemory,
     /// The pair refused entry, as it does once it is taken apart, or showed less than the pass has seen, which no run of one pair meets
     /// (45).

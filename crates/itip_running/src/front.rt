@@ -4,7 +4,7 @@ ghost use mathlib.Core.List.{IsPrefix};
 ghost use Rattle.itip_running.specs.History.{head_of, batches_of};
 
 use crate::history::History;
-use crate::history_rule::{Add, Law, Nothing};
+use crate::history_book::{Add, Law, Nothing};
 use logbook::{Offer, Seen, Start, Word};
 use std::snapshot::Snapshot;
 

@@ -10,11 +10,11 @@
 mod error;
 mod front;
 mod history;
-mod history_rule;
+mod history_book;
 mod keeper;
-mod look;
 mod meeting;
 mod named_receipt;
+mod open_read;
 mod outside;
 mod pair_protocol;
 mod pass;

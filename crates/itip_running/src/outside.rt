@@ -1,10 +1,11 @@
 //! What is made of the items of a desk, once the read is over.
-ghost use Rattle.std.specs.Prelude.{◌≡◌, ◌≤◌, length, IfOk, IfErr, IsErrOf};
+ghost use Rattle.std.specs.Prelude.{◌≡◌, ◌≤◌, List, length, IfOk, IfErr, IsErrOf, IsTrue, IsFalse};
 ghost use Rattle.itip_state.specs.Kept.{AreKept};
-ghost use Rattle.itip_view.specs.ByUid.{IsTextLeft, AreTooManyLeft};
+ghost use Rattle.itip_view.specs.ByUid.{AreLeft, AreTooManyLeft, IsTextLeft};
 ghost use Rattle.itip_view.specs.ListText.{IsListText};
 ghost use Rattle.itip_view.specs.Rows.{AreRows, AreTooMany, row_limit};
 ghost use Rattle.itip_view.specs.Showing.{Shows, AreRowsWhere, AreTooManyWhere, IsListTextFor};
+ghost use Rattle.itip_view.specs.declared.row.Row.{Row};
 
 use crate::error::PassError;
 use itip_state::{SharedItem, State};
@@ -81,7 +82,7 @@ pub(crate) fn rows_in(alloc: Global, state: &State, window: Window) -> Result<Ve
     }
 }
 
-/// The rows of a state in a window that show the attendee with this address. They are counted before any is made.
+/// The rows of a state in a window that show the attendee with this address, at most 100,000. They are counted before any is made.
 pub(crate) fn rows_for(
     alloc: Global,
     state: &State,
@@ -89,6 +90,7 @@ pub(crate) fn rows_for(
     address: &str,
 ) -> Result<Vec<Row>, PassError>
     ensures rows { IfOk result (λ rows. AreRowsWhere (Shows address.now) state.now window rows.items) }
+    ensures few { IfOk result (λ rows. length rows.items ≤ row_limit) }
     ensures many { IsErrOf result PassError.TooManyRows → AreTooManyWhere (Shows address.now) state.now window }
     ensures memory { IsErrOf result PassError.NoMemory → ⊥ }
     ensures entry { IsErrOf result PassError.NoEntry → ⊥ }
@@ -97,13 +99,25 @@ pub(crate) fn rows_for(
     let Ok(rows) = RowsByUid::of(alloc, state, window, &shown) else {
         return Err(PassError::NoListMemory);
     };
-    match rows.count() {
-        Ok(RowCount::Few(_)) => {}
-        Ok(RowCount::TooMany(_)) => return Err(PassError::TooManyRows),
-        Err(_) => return Err(PassError::NoListMemory),
+    let many = are_too_many(&rows)?;
+    if many {
+        return Err(PassError::TooManyRows);
     }
     match rows.to_vec() {
         Ok(rows) => Ok(rows),
+        Err(_) => Err(PassError::NoListMemory),
+    }
+}
+
+/// Whether more rows are left than a list may have. They are counted, and none is made.
+fn are_too_many(rows: &RowsByUid<'_, '_>) -> Result<bool, PassError>
+    ensures many { IfOk result (λ many. IsTrue many → AreTooManyLeft rows.now) }
+    ensures few { IfOk result (λ many. IsFalse many → (all : List Row) → AreLeft rows.now all → length all ≤ row_limit) }
+    ensures cause { IfErr result (λ e. e ≡ PassError.NoListMemory) }
+{
+    match rows.count() {
+        Ok(RowCount::Few(_)) => Ok(false),
+        Ok(RowCount::TooMany(_)) => Ok(true),
         Err(_) => Err(PassError::NoListMemory),
     }
 }

@@ -1,5 +1,5 @@
 //! A pass, which reads beside the keeper.
-ghost use Rattle.std.specs.Prelude.{◌≡◌, ◌⊎◌, ◌≤◌, length, Some, IsSome, IfOk, IfErr, IsTrue, IsErrOf};
+ghost use Rattle.std.specs.Prelude.{◌≡◌, ◌⊎◌, ◌≤◌, [], length, Some, IsSome, IfOk, IfErr, IsTrue, IsErrOf};
 ghost use mathlib.Core.List.{IsPrefix};
 
 use crate::error::PassError;
@@ -27,19 +27,20 @@ impl Pass {
     ghost use Rattle.itip_view.specs.Showing.{Shows, AreRowsWhere, AreTooManyWhere, IsListTextFor};
     ghost use Rattle.itip_running.specs.Deltas.{IsDeltaAfter};
     ghost use Rattle.itip_running.specs.Parts.{AreKeptOf};
-    ghost use Rattle.itip_running.specs.Ends.{publishes_seen, seen, pass_pair, publishes_told, told, receipt_pair};
+    ghost use Rattle.itip_running.specs.Seen.{publishes_seen, seen, pass_pair, publishes_told, told, receipt_pair};
 
     /// Returns the text of the task list in a window, of a list of published batches that begins with all that this pass had seen. The
     /// pass has then seen these batches.
     ///
     /// Fails with [`PassError::TooManyRows`] (31) if there are more than 100,000 rows, and with [`PassError::NoListMemory`] (32) if an
-    /// allocation fails; the pass has seen the batches all the same. Fails with [`PassError::NoEntry`] (45) if the pair lets nobody in or
-    /// shows less than was seen; then the pass has seen nothing more.
+    /// allocation fails; the pass has seen the batches all the same. If these have no item, it fails with neither. Fails with
+    /// [`PassError::NoEntry`] (45) if the pair lets nobody in or shows less than was seen; then the pass has seen nothing more.
     #[tactic(auto, using(crate::proofs::Groups::prefix_batches))]
     pub fn list(&mut self, window: Window) -> Result<Vec<u8>, PassError>
         ensures text { IfOk result (λ text. IsListText (heard (seen self.new)) window text.items) }
         ensures many { IsErrOf result PassError.TooManyRows → AreTooMany (heard (seen self.new)) window }
         ensures causes { IsErrOf result PassError.NoMemory → ⊥ }
+        ensures nothing { heard (seen self.new) ≡ [] → IfErr result (λ e. e ≡ PassError.NoEntry) }
         ensures grows { IsPrefix (seen self.old) (seen self.new) }
         ensures whole { IsPrefix (publishes_seen self.old) (publishes_seen self.new) }
         ensures no_entry { IsErrOf result PassError.NoEntry → publishes_seen self.new ≡ publishes_seen self.old }
@@ -55,13 +56,14 @@ impl Pass {
     /// [`list`](Pass::list).
     ///
     /// Fails with [`PassError::TooManyRows`] (31) if more than 100,000 rows show the attendee, and with [`PassError::NoListMemory`] (32)
-    /// if an allocation fails; the pass has seen the batches all the same. Fails with [`PassError::NoEntry`] (45) if the pair lets nobody
-    /// in or shows less than was seen; then the pass has seen nothing more.
+    /// if an allocation fails; the pass has seen the batches all the same. If these have no item, it fails with neither. Fails with
+    /// [`PassError::NoEntry`] (45) if the pair lets nobody in or shows less than was seen; then the pass has seen nothing more.
     #[tactic(auto, using(crate::proofs::Groups::prefix_batches))]
     pub fn list_for(&mut self, window: Window, address: &str) -> Result<Vec<u8>, PassError>
         ensures text { IfOk result (λ text. IsListTextFor address.now (heard (seen self.new)) window text.items) }
         ensures many { IsErrOf result PassError.TooManyRows → AreTooManyWhere (Shows address.now) (heard (seen self.new)) window }
         ensures causes { IsErrOf result PassError.NoMemory → ⊥ }
+        ensures nothing { heard (seen self.new) ≡ [] → IfErr result (λ e. e ≡ PassError.NoEntry) }
         ensures grows { IsPrefix (seen self.old) (seen self.new) }
         ensures whole { IsPrefix (publishes_seen self.old) (publishes_seen self.new) }
         ensures no_entry { IsErrOf result PassError.NoEntry → publishes_seen self.new ≡ publishes_seen self.old }
@@ -95,7 +97,8 @@ impl Pass {
         rows
     }
 
-    /// Returns the rows of a window that show the attendee with this address, of a list of published batches as in [`list`](Pass::list).
+    /// Returns the rows of a window that show the attendee with this address, at most 100,000, of a list of published batches as in
+    /// [`list`](Pass::list).
     ///
     /// Fails with [`PassError::TooManyRows`] (31) if more than 100,000 rows show the attendee, and with [`PassError::NoListMemory`] (32)
     /// if an allocation fails; the pass has seen the batches all the same. Fails with [`PassError::NoEntry`] (45) if the pair lets nobody
@@ -103,6 +106,7 @@ impl Pass {
     #[tactic(auto, using(crate::proofs::Groups::prefix_batches))]
     pub fn rows_for(&mut self, window: Window, address: &str) -> Result<Vec<Row>, PassError>
         ensures rows { IfOk result (λ rows. AreRowsWhere (Shows address.now) (heard (seen self.new)) window rows.items) }
+        ensures few { IfOk result (λ rows. length rows.items ≤ row_limit) }
         ensures many { IsErrOf result PassError.TooManyRows → AreTooManyWhere (Shows address.now) (heard (seen self.new)) window }
         ensures causes { IsErrOf result PassError.NoMemory → ⊥ }
         ensures grows { IsPrefix (seen self.old) (seen self.new) }

@@ -1,5 +1,5 @@
 //! A reader's end of the pair, by value.
-ghost use Rattle.std.specs.Prelude.{◌≡◌, ◌⊎◌, ◌≤◌, length, MatchResult, IfOk, IfErr, IsErrOf};
+ghost use Rattle.std.specs.Prelude.{◌≡◌, ◌⊎◌, ◌≤◌, [], length, MatchResult, IfOk, IfErr, IsErrOf};
 ghost use mathlib.Core.List.{IsPrefix};
 ghost use Rattle.left_right.specs.Sides.{view};
 ghost use Rattle.itip_state.specs.Kept.{AreKept};
@@ -13,7 +13,7 @@ ghost use Rattle.itip_running.specs.Pair.{name_of};
 
 use crate::error::PassError;
 use crate::front::Front;
-use crate::look::Look;
+use crate::open_read::Look;
 use crate::pair_protocol::{PublishedReader, Sees};
 use crate::receipt::Receipt;
 use itip_desk::Batch;
@@ -32,7 +32,7 @@ pub(crate) struct ReadEnd {
 }
 
 impl ReadEnd {
-    ghost use Rattle.itip_running.specs.Ends.{reader_groups, reader_seen, reader_pair, publishes_told};
+    ghost use Rattle.itip_running.specs.Seen.{reader_groups, reader_seen, reader_pair, publishes_told};
 
     /// Looks at what is published, which begins with all that was seen. If the pair lets nobody in or shows less, returns the end
     /// unchanged.
@@ -78,6 +78,7 @@ impl ReadEnd {
         ensures text { IfOk result.1 (λ text. IsListText (heard (reader_seen result.0)) window text.items) }
         ensures many { IsErrOf result.1 PassError.TooManyRows → AreTooMany (heard (reader_seen result.0)) window }
         ensures causes { IsErrOf result.1 PassError.NoMemory → ⊥ }
+        ensures nothing { heard (reader_seen result.0) ≡ [] → IfErr result.1 (λ e. e ≡ PassError.NoEntry) }
         ensures grows { IsPrefix (reader_groups self) (reader_groups result.0) }
         ensures no_entry { IsErrOf result.1 PassError.NoEntry → reader_groups result.0 ≡ reader_groups self }
         ensures book { reader_pair result.0 ≡ reader_pair self }
@@ -98,6 +99,7 @@ impl ReadEnd {
         ensures many { IsErrOf result.1 PassError.TooManyRows
             → AreTooManyWhere (Shows address.now) (heard (reader_seen result.0)) window }
         ensures causes { IsErrOf result.1 PassError.NoMemory → ⊥ }
+        ensures nothing { heard (reader_seen result.0) ≡ [] → IfErr result.1 (λ e. e ≡ PassError.NoEntry) }
         ensures grows { IsPrefix (reader_groups self) (reader_groups result.0) }
         ensures no_entry { IsErrOf result.1 PassError.NoEntry → reader_groups result.0 ≡ reader_groups self }
         ensures book { reader_pair result.0 ≡ reader_pair self }
@@ -131,6 +133,7 @@ impl ReadEnd {
         address: &str,
     ) -> (ReadEnd, Result<Vec<Row>, PassError>)
         ensures rows { IfOk result.1 (λ rows. AreRowsWhere (Shows address.now) (heard (reader_seen result.0)) window rows.items) }
+        ensures few { IfOk result.1 (λ rows. length rows.items ≤ row_limit) }
         ensures many { IsErrOf result.1 PassError.TooManyRows
             → AreTooManyWhere (Shows address.now) (heard (reader_seen result.0)) window }
         ensures causes { IsErrOf result.1 PassError.NoMemory → ⊥ }

@@ -2,7 +2,7 @@
 ghost use Rattle.std.specs.Prelude.{◌≡◌, ◌⊎◌, ◌≤◌, [], length, Some, IfOk, IfErr, All};
 ghost use Rattle.left_right.specs.Sides.{view};
 ghost use Rattle.itip_running.specs.Pair.{name_of};
-ghost use Rattle.itip_running.specs.Ends.{publishes, pending, calls, fresh, keeper_pair, publishes_seen, pass_pair};
+ghost use Rattle.itip_running.specs.Seen.{publishes, pending, calls, fresh, keeper_pair, publishes_seen, pass_pair};
 
 use crate::error::LiveError;
 use crate::front::{Front, open};

@@ -1,8 +1,9 @@
 //! The bytes after a line of a stream.
-ghost use Rattle.std.specs.Prelude.{ℕ, ◌≢◌, ◌<◌, IfOk, IfErr};
+ghost use Rattle.std.specs.Prelude.{ℕ, ◌≡◌, ◌≢◌, ◌<◌, None, IfOk, IfErr, OnOk, OnErr, IsErrOf};
 ghost use Rattle.itip_script.specs.Stream.{ReadsBody, body_of};
+ghost use Rattle.itip_streams.specs.Once.{EndsReading, ReadsSome, ReadsTo};
 
-use itip_streams::{StreamFault, pass_octets, read_octets};
+use itip_streams::{ReadOnce, StreamFault, pass_octets, read_octets};
 use std::alloc::Global;
 use std::io::Read;
 
@@ -19,8 +20,9 @@ pub enum Body {
 
 /// Reads exactly `octets` bytes. If they are more than `limit`, they are read past and not held.
 ///
-/// The first failed read is returned as [`StreamFault::Read`]. If an allocation fails, the error is [`StreamFault::Memory`].
-pub fn read_body<R: Read>(
+/// The first failed read is returned as [`StreamFault::Read`]. If an allocation fails, the error is [`StreamFault::Memory`], and no read
+/// has failed.
+pub fn read_body<R: Read + ReadOnce>(
     alloc: Global,
     reader: &mut R,
     octets: u64,
@@ -28,6 +30,9 @@ pub fn read_body<R: Read>(
 ) -> Result<Body, StreamFault>
     ensures reads { IfOk result (λ body. ReadsBody limit octets (R.remaining reader.old) (R.remaining reader.new) (body_of body)) }
     ensures fault { IfErr result (λ fault. fault ≢ StreamFault.Write) }
+    ensures well { OnOk result (EndsReading R.reads reader.old reader.new) }
+    ensures failed { IsErrOf result StreamFault.Read → ReadsTo R.reads None reader.old reader.new }
+    ensures stopped { IsErrOf result StreamFault.Memory → ReadsSome R.reads reader.old reader.new }
 {
     if octets > limit as u64 {
         return pass_body(reader, octets);
@@ -39,10 +44,12 @@ pub fn read_body<R: Read>(
 }
 
 /// Reads past `octets` bytes, which are more than the limit.
-fn pass_body<R: Read>(reader: &mut R, octets: u64) -> Result<Body, StreamFault>
+fn pass_body<R: Read + ReadOnce>(reader: &mut R, octets: u64) -> Result<Body, StreamFault>
     ensures reads { IfOk result (λ body. (limit : ℕ) → limit < octets
         → ReadsBody limit octets (R.remaining reader.old) (R.remaining reader.new) (body_of body)) }
-    ensures fault { IfErr result (λ fault. fault ≢ StreamFault.Write) }
+    ensures fault { IfErr result (λ fault. fault ≡ StreamFault.Read) }
+    ensures well { OnOk result (EndsReading R.reads reader.old reader.new) }
+    ensures failed { OnErr result (ReadsTo R.reads None reader.old reader.new) }
 {
     let all = pass_octets(reader, octets)?;
     if all { Ok(Body::Long) } else { Ok(Body::Cut) }

@@ -12,8 +12,10 @@ use Rattle.itip_items.specs.declared.item.Item.{Item}
 use Rattle.itip_items.specs.declared.key.Key.{Key}
 use Rattle.itip_items.specs.declared.key.Key.TheVariants.{Series}
 use Rattle.itip_state.specs.DyingLaws.{less_from, from_less}
-use Rattle.itip_state.specs.Held.{UidState, can_die, items_of, uid_state_items, AreSound, HoldKept}
-use Rattle.itip_state.specs.Kept.{IsBest, IsKept, IsDead, CanDie, AreKept, AreUidsOf, IsItemsOf}
+use Rattle.std.specs.Map.{keys_of}
+use Rattle.itip_join.specs.declared.lift.Lift.TheVariants.{Known}
+use Rattle.itip_state.specs.Held.{UidState, Best, can_die, items_of, series_items, series_list, uid_state_items, AreSound, HoldKept}
+use Rattle.itip_state.specs.Kept.{IsBest, IsKept, IsDead, CanDie, AreKept, AreSeriesOf, AreUidsOf, IsItemsOf}
 use Rattle.itip_state.specs.Order.{IsBelow}
 use Rattle.itip_state.specs.Told.{AreOutdone, AreNews}
 use Rattle.itip_state.proofs.Best.{has_best, best_above}
@@ -119,6 +121,10 @@ pub no_uids : (uids : List (List ℕ)) → AreUidsOf uids [] → uids ≡ []
 no_uids [] are = refl
 no_uids (u ∷ uids) are = let some = are.each u (cons_first u uids) in absurd (none_in some.0 some.1)
 
+pub no_series : (series set : List Item) → AreSeriesOf series set → AreSeriesOf [] set → series ≡ []
+no_series [] set are none = refl
+no_series (x ∷ series) set are none = let there = are.each x (cons_first x series) in absurd (none_in x (none.all x there.0 there.1))
+
 pub uids_of_nothing : AreUidsOf [] []
 uids_of_nothing = record {
   ascend = no_pairs (λ (a b : List ℕ). slice_cmp nat_cmp a b ≡ Less);
@@ -148,6 +154,17 @@ pub none_of_these : {A : Type 0} (set : List Item) (uid : A → List ℕ) (uids 
     (x : Item) → Contains set x → uid_of x.key ≡ uid u → ⊥
 none_of_these set uid uids k u below is none x there about =
     none_in x ((none x).1 (there, subst (Contains (map uid uids)) (sym about) (map_has uid uids k u below is)))
+
+-- if a key is left, there are keys
+pub none_keyed : {K V : Type 0} (done : List K) (es rest : List (K × V)) (e : K × V) → es ≡ e ∷ rest → done ++ keys_of es ≡ [] → ⊥
+none_keyed done es rest e cut none = none_first e.0 (keys_of rest) (ap keys_of (sym cut) ∙ none_after done (keys_of es) none)
+
+-- if a series item is left, there are series items
+pub none_known : (done : List Item) (es rest : List (List ℕ × UidState)) (e : List ℕ × UidState) (series : Best) → es ≡ e ∷ rest →
+    e.1.series ≡ Known series → done ++ series_list es ≡ [] → ⊥
+none_known done es rest e series cut known none =
+    none_first series.value (series_list rest)
+    (ap (λ s. series_items s ++ series_list rest) (sym known) ∙ ap series_list (sym cut) ∙ none_after done (series_list es) none)
 
 -- if something is held, there are items
 pub none_held : (done : List Item) (es rest : List (List ℕ × UidState)) (e : List ℕ × UidState) → es ≡ e ∷ rest → AreSound es →

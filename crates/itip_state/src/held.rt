@@ -151,9 +151,10 @@ impl Held {
         self.map.map.len()
     }
 
-    /// The UIDs, in order.
+    /// The UIDs, in order. Allocates nothing if there are none.
     pub(crate) fn uids(&self, alloc: Global) -> Result<Vec<&Uid>, NoMemory>
-        ensures { IfOk result (λ uids. map (λ uid. uid.now) uids.items ≡ keys_of self.now) }
+        ensures uids { IfOk result (λ uids. map (λ uid. uid.now) uids.items ≡ keys_of self.now) }
+        ensures succeeds { keys_of self.now ≡ [] → IsOk result }
     {
         let mut uids = Vec::new(alloc);
         for (uid, _) in self.map.map.iter() {
@@ -162,9 +163,10 @@ impl Held {
         Ok(uids)
     }
 
-    /// The series items, in the order of their UIDs.
+    /// The series items, in the order of their UIDs. Allocates nothing if there are none.
     pub(crate) fn series(&self, alloc: Global) -> Result<Vec<&Item>, NoMemory>
-        ensures { IfOk result (λ series. map (λ item. item.now) series.items ≡ series_list self.now) }
+        ensures series { IfOk result (λ series. map (λ item. item.now) series.items ≡ series_list self.now) }
+        ensures succeeds { series_list self.now ≡ [] → IsOk result }
     {
         let mut items = Vec::new(alloc);
         for (_, series) in self.map.map.iter() {

@@ -236,16 +236,18 @@ impl State {
         by_octets(self.held.shared_items(self.alloc)?)
     }
 
-    /// The kept series items, sorted by UID, each once. Fails if an allocation fails.
+    /// The kept series items, sorted by UID, each once. Fails if an allocation fails; allocates nothing if none is kept.
     pub fn series(&self) -> Result<Vec<&Item>, NoMemory>
-        ensures { IfOk result (λ series. AreSeriesOf (map (λ item. item.now) series.items) self.now) }
+        ensures series { IfOk result (λ series. AreSeriesOf (map (λ item. item.now) series.items) self.now) }
+        ensures succeeds { AreSeriesOf [] self.now → IsOk result }
     {
         self.held.series(self.alloc)
     }
 
-    /// The UIDs of which something is kept, sorted by bytes, each once. Fails if an allocation fails.
+    /// The UIDs of which something is kept, sorted by bytes, each once. Fails if an allocation fails; allocates nothing if nothing is kept.
     pub fn uids(&self) -> Result<Vec<&Uid>, NoMemory>
         ensures uids { IfOk result (λ uids. AreUidsOf (map (λ uid. uid.now) uids.items) self.now) }
+        ensures succeeds { self.now ≡ [] → IsOk result }
         ensures state { OnOk result (IsState self.now) }
     {
         self.held.uids(self.alloc)
@@ -268,10 +270,11 @@ impl State {
         }
     }
 
-    /// The kept items of a UID. No other UID is looked at. Fails if an allocation fails.
+    /// The kept items of a UID. No other UID is looked at. Fails if an allocation fails; allocates nothing if nothing is kept of it.
     pub fn of_uid<'a>(&'a self, uid: &'a Uid) -> Result<ItemsOfUid<'a>, NoMemory>
         ensures uid { IfOk result (λ part. part.uid ≡ uid.now) }
         ensures items { IfOk result (λ part. ArePart uid.now part.items self.now) }
+        ensures succeeds { ArePart uid.now [] self.now → IsOk result }
     {
         let mut items = Vec::new(self.alloc);
         let Some(held) = self.held.get(uid) else {

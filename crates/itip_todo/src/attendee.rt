@@ -1,4 +1,5 @@
-ghost use Rattle.std.specs.Prelude.{◌≡◌, IfOk, Some};
+ghost use Rattle.std.specs.Prelude.{◌≡◌, IfOk, IsOk, Some};
+ghost use Rattle.itip_lines.specs.Room.{StandsInPlace};
 ghost use Rattle.itip_todo.specs.Participation.{partstat_of, partstat_named, partstat_text};
 ghost use Rattle.itip_todo.specs.Table.{attendee_key};
 
@@ -67,8 +68,11 @@ pub fn participation(attendee: &Property) -> PartStat
 }
 
 /// The key that identifies an attendee: the address with ASCII letters in lower case (our own rule).
+///
+/// Returns an error if an allocation fails; an address of at most 32 bytes needs none.
 pub fn attendee_key(alloc: Global, address: &str) -> Result<Text, NoMemory>
-    ensures { IfOk result (λ key. key ≡ attendee_key address.now) }
+    ensures key { IfOk result (λ key. key ≡ attendee_key address.now) }
+    ensures succeeds { StandsInPlace address.now → IsOk result }
 {
     let mut key = Text::copy(alloc, address)?;
     key.make_ascii_lowercase();

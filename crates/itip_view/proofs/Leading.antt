@@ -17,7 +17,7 @@ use Rattle.itip_state.proofs.OneOrder.{less_one_way}
 use Rattle.itip_view.specs.Most.{HasRows, HasMost, IsMostOf, IsMostAmong}
 use Rattle.itip_view.specs.Rows.{IsRow}
 use Rattle.itip_view.specs.Showing.{AreRowsWhere, IsOf}
-use Rattle.itip_view.specs.declared.most.MostRows.{MostRows}
+use Rattle.itip_view.specs.declared.row_count.MostRows.{MostRows}
 use Rattle.itip_view.specs.declared.row.Row.{Row}
 use Rattle.itip_view.specs.declared.window.Window.{Window}
 use Rattle.itip_view.proofs.Alike.{KeepAlike, alike_back}

@@ -25,9 +25,9 @@ use Rattle.itip_view.specs.Rows.{IsRow, moment_of, row_cmp, row_limit}
 use Rattle.itip_view.specs.Showing.{AreRowsWhere, AreTooManyWhere, IsAmong, IsOf}
 use Rattle.itip_view.specs.Wanting.{Wants}
 use Rattle.itip_view.specs.declared.by_uid.RowsByUid.{RowsByUid}
-use Rattle.itip_view.specs.declared.most.MostRows.{MostRows}
-use Rattle.itip_view.specs.declared.most.RowCount.{RowCount}
-use Rattle.itip_view.specs.declared.most.RowCount.TheVariants.{Few, TooMany}
+use Rattle.itip_view.specs.declared.row_count.MostRows.{MostRows}
+use Rattle.itip_view.specs.declared.row_count.RowCount.{RowCount}
+use Rattle.itip_view.specs.declared.row_count.RowCount.TheVariants.{Few, TooMany}
 use Rattle.itip_view.specs.declared.row.Row.{Row}
 use Rattle.itip_view.specs.declared.window.Window.{Window}
 use Rattle.itip_view.proofs.Gathering.{gather_none}

@@ -1,6 +1,9 @@
 pub mod FlatMap
 pub mod OfKept
 pub mod TodoLines
+pub mod Drafts
+pub mod PlainTodos
+pub mod Unbroken
 pub mod Sequences
 pub mod Alike
 pub mod OneList

@@ -1,18 +1,18 @@
 -- The occurrences of a to-do as a whole.
-use Rattle.std.proofs.Common.{◌≡◌, ◌↔◌, ℕ, ℤ, pos, ◌+ℤ◌, List, [], subst, arith, Some, None}
+use Rattle.std.proofs.Common.{◌≡◌, ◌↔◌, ℕ, List, [], subst, sym, refl, Option, Some, None}
 use Rattle.std.specs.List.{Contains}
-use Rattle.std.proofs.lemmas.Int.{ints}
-use Rattle.itip_moment.specs.Moment.{moment_day}
 use Rattle.itip_moment.specs.declared.moment.Moment.{Moment}
 use Rattle.itip_recur.specs.Members.{Occurs}
 use Rattle.itip_recur.specs.Occurrences.{OccursIn, AreOccurrences}
 use Rattle.itip_recur.specs.ToDoShape.{Recurs, IsShape, IsSeriesOf}
 use Rattle.itip_recur.specs.declared.series.Series.{Series}
 use Rattle.itip_recur.specs.declared.series.Shape.TheVariants as shape
+use Rattle.itip_recur.specs.declared.series.Shape.{Shape}
 use Rattle.itip_recur.proofs.OneSeries.{series_one}
 use Rattle.itip_items.specs.declared.item.Item.{Item}
 use Rattle.itip_items.specs.declared.key.Key.TheVariants as key
 use Rattle.itip_state.proofs.Members.{none_in}
+use Rattle.itip_view.specs.OccurringWhole.{AreOccurring, IsOccurringOf}
 use Rattle.itip_view.specs.InQuestion.{OccursAt}
 use Rattle.itip_view.specs.OfUid.{IsWhole, IsOccurrence, AreOccurrencesOf}
 use Rattle.itip_view.specs.declared.whole.Whole.{Whole}
@@ -50,12 +50,6 @@ module _ (heard : List Item) (window : Window) (uid : List ℕ) where
   opaque_occurs whole moments e s (live, is) =
       none_occur moments e (λ at. opaque_has_none heard window uid whole.item.now live at (subst (IsShape whole.item.now.todo) s is))
 
--- what occurs at a moment occurs on its day
-pub on_its_day : (series : Series) (from to : ℤ) (at : Moment) → from ≡ moment_day at → to ≡ from +ℤ pos 1 → OccursIn series from to at ↔
-    Occurs series at
-on_its_day series from to at first last =
-    (λ o. o.occurs, λ o. record { occurs = o; not_before = omega (arith, ints); before_end = omega (arith, ints) })
-
 module _ (heard : List Item) (uid : List ℕ) (at : Moment) where
   -- a to-do that repeats occurs where its series does
   pub whole_occurs : (whole : Whole) (series : Series) → whole.shape ≡ shape.Repeats series → IsWhole heard uid (Some whole) →
@@ -83,3 +77,17 @@ module _ (heard : List Item) (uid : List ℕ) (at : Moment) where
       let opaque : IsShape whole.item.now.todo shape.Opaque = subst (IsShape whole.item.now.todo) s is in
       opaque.1 o.series (subst (λ (i : Item). IsSeriesOf i.todo o.series)
       (one_best heard (key.Series uid) o.item whole.item.now o.live.best live.best) o.repeats)
+
+module _ (heard : List Item) (uid : List ℕ) (whole : Whole) where
+  -- a to-do occurs where the series of its shape does
+  pub shape_occurs : (found : Option Series) → IsOccurringOf whole.shape found → IsWhole heard uid (Some whole) →
+      AreOccurring heard uid found
+  shape_occurs found of is = by_shape whole.shape refl found of
+    where
+      by_shape : (s : Shape) → whole.shape ≡ s → (found : Option Series) → IsOccurringOf s found → AreOccurring heard uid found
+      by_shape shape.Single e None of = λ at. single_not heard uid at whole e is
+      by_shape shape.Single e (Some series) of = absurd (cc)
+      by_shape shape.Opaque e None of = λ at. opaque_not heard uid at whole e is
+      by_shape shape.Opaque e (Some series) of = absurd (cc)
+      by_shape (shape.Repeats series) e found of =
+          subst (AreOccurring heard uid) (sym of) (λ at. whole_occurs heard uid at whole series e is)

@@ -9,7 +9,7 @@ use Rattle.itip_items.specs.declared.item.Item.{Item}
 use Rattle.itip_view.specs.Most.{HasRows, IsCountAmong}
 use Rattle.itip_view.specs.Rows.{row_limit}
 use Rattle.itip_view.specs.Showing.{AreRowsWhere, IsAmong}
-use Rattle.itip_view.specs.declared.most.RowCount.TheVariants.{Few, TooMany}
+use Rattle.itip_view.specs.declared.row_count.RowCount.TheVariants.{Few, TooMany}
 use Rattle.itip_view.specs.declared.row.Row.{Row}
 use Rattle.itip_view.specs.declared.window.Window.{Window}
 use Rattle.itip_view.proofs.Gathering.{gather_none, gather_more}

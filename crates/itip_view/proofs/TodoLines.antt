@@ -1,6 +1,7 @@
 -- The lines of rows that begin with TODO, piece by piece.
-use Rattle.std.proofs.Common.{◌≡◌, ◌≢◌, ◌+◌, ◌==◌, ℕ, zero, suc, Bool, true, false, cond, List, [], ◌∷◌, ◌++◌, map, length}
-use Rattle.std.proofs.Common.{Option, Some, None, inl, inr, true≢false, refl, sym, ap, subst, ◌∙◌, arith, append_assoc, append-nil, zero-add, add-zero, add_assoc}
+use Rattle.std.proofs.Common.{◌≡◌, ◌+◌, ◌==◌, ℕ, zero, suc, Bool, true, false, cond, List, [], ◌∷◌, ◌++◌, map, length}
+use Rattle.std.proofs.Common.{Option, Some, None, inl, inr, true≢false, refl, sym, ap, subst, ◌∙◌, arith, append_assoc, append-nil}
+use Rattle.std.proofs.Common.{zero-add, add-zero, add_assoc}
 use Rattle.std.specs.Prelude.{codes, IfSome}
 use Rattle.std.specs.Fmt.{decimal}
 use Rattle.std.specs.List.{flat_map, AllByRecursion}
@@ -63,7 +64,7 @@ next_line text none = then_adds (codes "\n") (32 ∷ text) line_end (blank text 
 
 -- ---- texts
 
-digits_unbroken : (digits : List ℕ) → IsUnbroken (map (λ d. 48 + d) digits)
+pub digits_unbroken : (digits : List ℕ) → IsUnbroken (map (λ d. 48 + d) digits)
 digits_unbroken [] = tt
 digits_unbroken (d ∷ digits) = (λ e. absurd (omega arith), digits_unbroken digits)
 

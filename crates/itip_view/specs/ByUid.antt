@@ -7,8 +7,8 @@ use Rattle.itip_view.specs.Rows.{IsRow, row_limit}
 use Rattle.itip_view.specs.Showing.{AreRowsWhere, AreTooManyWhere, IsAmong, IsOf}
 use Rattle.itip_view.specs.Wanting.{Wants}
 use Rattle.itip_view.specs.declared.by_uid.RowsByUid.{RowsByUid}
-use Rattle.itip_view.specs.declared.most.RowCount.{RowCount}
-use Rattle.itip_view.specs.declared.most.RowCount.TheVariants.{Few, TooMany}
+use Rattle.itip_view.specs.declared.row_count.RowCount.{RowCount}
+use Rattle.itip_view.specs.declared.row_count.RowCount.TheVariants.{Few, TooMany}
 use Rattle.itip_view.specs.declared.row.Row.{Row}
 use Rattle.itip_view.specs.declared.window.Window.{Window}
 

@@ -21,4 +21,5 @@ pub mod Most
 pub mod ByUid
 pub mod RowDays
 pub mod InQuestion
+pub mod OccurringWhole
 pub mod OfKept

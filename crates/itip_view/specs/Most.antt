@@ -7,9 +7,9 @@ use Rattle.std.specs.declared.cmp.Ordering.TheVariants.{Less}
 use Rattle.itip_items.specs.declared.item.Item.{Item}
 use Rattle.itip_view.specs.Rows.{IsRow, row_limit}
 use Rattle.itip_view.specs.Showing.{AreRowsWhere, AreTooManyWhere, IsAmong, IsOf}
-use Rattle.itip_view.specs.declared.most.MostRows.{MostRows}
-use Rattle.itip_view.specs.declared.most.RowCount.{RowCount}
-use Rattle.itip_view.specs.declared.most.RowCount.TheVariants.{Few, TooMany}
+use Rattle.itip_view.specs.declared.row_count.MostRows.{MostRows}
+use Rattle.itip_view.specs.declared.row_count.RowCount.{RowCount}
+use Rattle.itip_view.specs.declared.row_count.RowCount.TheVariants.{Few, TooMany}
 use Rattle.itip_view.specs.declared.row.Row.{Row}
 use Rattle.itip_view.specs.declared.window.Window.{Window}
 

@@ -5,11 +5,11 @@ ghost use Rattle.itip_view.specs.AscendingUids.{AreAscendingUids, AreAscendingUi
 use crate::NoMemory;
 use crate::error::ViewError;
 use crate::list_text::text_by_uid;
-use crate::most::{RowCount, count_among};
 use crate::row::Row;
-use crate::row_order::{rows_by_uid, sorted_uids};
-use crate::shown::shown_rows;
+use crate::row_count::{RowCount, count_among};
+use crate::uid_order::{rows_by_uid, sorted_uids};
 use crate::wanted::Wanted;
+use crate::wanted_rows::shown_rows;
 use crate::window::Window;
 use itip_state::State;
 use itip_todo::Uid;
@@ -40,7 +40,7 @@ impl<'s, 'w> RowsByUid<'s, 'w> {
     ghost use Rattle.itip_view.specs.ByUid.{AreAsked, AreLeft, AreTooManyLeft, IsCountOf, IsNextOf, IsTextLeft, uids_left, uids_of};
     ghost use Rattle.itip_view.specs.declared.row.Row.{Row};
 
-    /// The rows of all UIDs. Fails only when out of memory.
+    /// The rows of all UIDs. Fails only when out of memory; if nothing is kept, no UID is left, and it takes none.
     pub fn of(
         alloc: Global,
         state: &'s State,
@@ -50,6 +50,8 @@ impl<'s, 'w> RowsByUid<'s, 'w> {
         ensures rows { IfOk result (λ asked. (rows : List Row)
             → AreLeft asked rows ↔ AreRowsWhere (Wants wanted.now) state.now window rows) }
         ensures asked { IfOk result (AreAsked (Wants wanted.now) state.now window) }
+        ensures none { state.now ≡ [] → IfOk result (λ asked. uids_of asked ≡ []) }
+        ensures succeeds { state.now ≡ [] → IsOk result }
     {
         let uids = state.uids()?;
         Ok(RowsByUid {

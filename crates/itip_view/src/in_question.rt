@@ -11,10 +11,10 @@ use crate::NoMemory;
 use crate::answers::{AnswerSearch, Questions, in_turn, in_turn_under, only};
 use crate::governs::governing_between;
 use crate::keyed_item::KeyedItem;
+use crate::occurring_whole::{OccurringWhole, occurring_whole, occurs_at};
 use crate::ranges::Ranges;
 use crate::row::ShownAttendee;
 use crate::standing::{if_live, is_live, standing_item};
-use crate::whole::{Whole, occurs_at, whole_of};
 use itip_items::Item;
 use itip_lines::ListOf;
 use itip_moment::Moment;
@@ -31,20 +31,20 @@ pub struct RowInQuestion<'a> {
     pub attendees: ListOf<ShownAttendee>,
 }
 
-/// What answers to a to-do as a whole and to its instances are about. Built once for many questions; one about an instance at which
-/// no item stands lists the occurrences of its day.
+/// What answers to a to-do as a whole and to its instances are about. Built once for many questions: building it sorts RDATE and finds
+/// the end of the rule, and then what a question about an instance costs doesn't depend on how long the to-do's recurrence is.
 #[derive(Drop)]
 pub struct InQuestion<'v, 'a> {
     alloc: Global,
     items: &'v ItemsOfUid<'a>,
-    whole: Option<Whole<'a>>,
+    whole: Option<OccurringWhole<'a>>,
     ranges: Ranges<'v, 'a>,
 }
 
 impl<'v, 'a> Model for InQuestion<'v, 'a> {
     ghost use Rattle.std.specs.Prelude.{◌≡◌};
     ghost use Rattle.itip_state.specs.OfUid.{UidPart, uid_part_code};
-    ghost use Rattle.itip_view.specs.OfUid.{IsWhole};
+    ghost use Rattle.itip_view.specs.OccurringWhole.{IsOccurringWhole};
 
     ghost Value = { UidPart };
 
@@ -52,7 +52,7 @@ impl<'v, 'a> Model for InQuestion<'v, 'a> {
 
     ghost view = { λ q. q.items.now };
 
-    ghost invariant = { λ q. IsWhole q.items.now.items q.items.now.uid q.whole × (q.ranges ≡ q.items.now) };
+    ghost invariant = { λ q. IsOccurringWhole q.items.now.items q.items.now.uid q.whole × (q.ranges ≡ q.items.now) };
 }
 
 impl<'v, 'a> InQuestion<'v, 'a> {
@@ -60,7 +60,7 @@ impl<'v, 'a> InQuestion<'v, 'a> {
     pub fn of(alloc: Global, items: &'v ItemsOfUid<'a>) -> Result<InQuestion<'v, 'a>, NoMemory>
         ensures { IfOk result (λ question. question ≡ items.now) }
     {
-        let whole = whole_of(alloc, items)?;
+        let whole = occurring_whole(alloc, items)?;
         let ranges = Ranges::of(alloc, items)?;
         Ok(InQuestion {
             alloc,
@@ -85,31 +85,31 @@ impl<'v, 'a> InQuestion<'v, 'a> {
     }
 
     /// The item that governs the row in question: for the to-do as a whole the live series item, for an instance the item that governs
-    /// the row with this identifier; `None` if there is no such row. Fails only when out of memory.
-    pub fn governing(&self, id: Option<&Moment>) -> Result<Option<&'a Item>, NoMemory>
-        ensures { IfOk result (λ found. MatchOption (option_copied found)
+    /// the row with this identifier; `None` if there is no such row.
+    pub fn governing(&self, id: Option<&Moment>) -> Option<&'a Item>
+        ensures { MatchOption (option_copied result)
             (NoneInQuestion self.now.items self.now.uid (option_copied id.entry))
-            (IsInQuestion self.now.items self.now.uid (option_copied id.entry))) }
+            (IsInQuestion self.now.items self.now.uid (option_copied id.entry)) }
     {
         match id {
             Some(at) => self.governing_at(at),
-            None => Ok(if_live(self.items.series())),
+            None => if_live(self.items.series()),
         }
     }
 
     /// The item that governs the row with an identifier.
-    fn governing_at(&self, at: &Moment) -> Result<Option<&'a Item>, NoMemory>
-        ensures { IfOk result (λ found. MatchOption (option_copied found)
+    fn governing_at(&self, at: &Moment) -> Option<&'a Item>
+        ensures { MatchOption (option_copied result)
             (NoneInQuestion self.now.items self.now.uid (Some at.now))
-            (IsInQuestion self.now.items self.now.uid (Some at.now))) }
+            (IsInQuestion self.now.items self.now.uid (Some at.now)) }
     {
         if let Some(instance) = standing_item(self.items, at) {
-            return Ok(if_live(Some(instance)));
+            return if_live(Some(instance));
         }
-        if !occurs_at(self.alloc, &self.whole, at)? {
-            return Ok(None);
+        if !occurs_at(&self.whole, at) {
+            return None;
         }
-        Ok(governing_between(self.items, &self.ranges, at))
+        governing_between(self.items, &self.ranges, at)
     }
 
     /// The row in question, with the attendees that it shows; without an identifier only answers to the to-do as a whole decide.
@@ -172,7 +172,7 @@ impl<'v, 'a> InQuestion<'v, 'a> {
         let Some(whole) = &self.whole else {
             return Ok(None);
         };
-        if !occurs_at(self.alloc, &self.whole, at)? {
+        if !occurs_at(&self.whole, at) {
             return Ok(None);
         }
         match self.ranges.ruling(at) {

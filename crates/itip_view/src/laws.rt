@@ -18,7 +18,7 @@ ghost use Rattle.itip_view.specs.RowDays.{HasRowsIn, NamesIn};
 ghost use Rattle.itip_view.specs.Showing.{Shows, AreRowsWhere, AreTooManyWhere, IsListTextFor};
 ghost use Rattle.itip_view.specs.Most.{IsMostOf};
 ghost use Rattle.itip_view.specs.Wanting.{Wants};
-ghost use Rattle.itip_view.specs.declared.most.MostRows.{MostRows};
+ghost use Rattle.itip_view.specs.declared.row_count.MostRows.{MostRows};
 ghost use Rattle.itip_view.specs.declared.row.Row.{Row};
 ghost use Rattle.itip_view.specs.declared.row.ShownAttendee.{ShownAttendee};
 ghost use Rattle.itip_view.specs.declared.wanted.Wanted.{Wanted};

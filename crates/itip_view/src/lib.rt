@@ -12,20 +12,21 @@ mod in_question;
 mod keyed_item;
 mod laws;
 mod list_text;
-mod most;
-mod of_uid;
+mod occurring_whole;
 mod progress;
 mod ranges;
 mod row;
+mod row_count;
 mod row_form;
-mod row_order;
 mod row_place;
 mod row_text;
-mod shown;
+mod rows_of_uid;
 mod standing;
 mod state_rows;
 mod todo_lines;
+mod uid_order;
 mod wanted;
+mod wanted_rows;
 mod whole;
 mod window;
 
@@ -39,15 +40,15 @@ pub use laws::{
     answers_of_kept, lists_of_parts, one_list, question_of_kept, rows_are_governed,
     rows_are_in_question, rows_need_items, rows_of_part, standing_of_kept, view_of_kept,
 };
-pub use most::{MostRows, RowCount};
 pub use ranges::Ranges;
 pub use row::{Row, RowId, ShownAttendee};
+pub use row_count::{MostRows, RowCount};
 pub use row_form::{PlainRows, RowForm};
-pub use row_order::sorted_uids;
 pub use row_text::{write_list, write_row};
 pub use standing::{if_live, is_live, stands_beside};
 pub use state_rows::{rows, rows_of};
 pub use std::alloc::AllocError as NoMemory;
-pub use todo_lines::todo_lines_of_rows;
+pub use todo_lines::{rows_have_unbroken_texts, todo_lines_of_rows};
+pub use uid_order::sorted_uids;
 pub use wanted::{Wanted, is_overdue};
 pub use window::Window;

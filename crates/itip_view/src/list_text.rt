@@ -5,9 +5,9 @@ ghost use Rattle.itip_view.specs.Showing.{AreTooManyWhere, IsAmong, IsTextAmong}
 ghost use Rattle.itip_view.specs.Wanting.{Wants};
 
 use crate::error::ViewError;
-use crate::row_order::ROW_LIMIT;
-use crate::shown::put_shown;
+use crate::row_count::ROW_LIMIT;
 use crate::wanted::Wanted;
+use crate::wanted_rows::put_shown;
 use crate::window::Window;
 use itip_state::State;
 use itip_todo::Uid;

@@ -6,11 +6,10 @@ ghost use Rattle.itip_view.specs.Showing.{ShowsNamed, AreRowsWhere, AreTooManyWh
 
 use crate::by_uid::RowsByUid;
 use crate::error::ViewError;
-use crate::most::RowCount;
 use crate::row::Row;
-use crate::row_order::ROW_LIMIT;
-use crate::shown::shown_rows;
+use crate::row_count::{ROW_LIMIT, RowCount};
 use crate::wanted::Wanted;
+use crate::wanted_rows::shown_rows;
 use crate::window::Window;
 use itip_state::State;
 use itip_todo::Uid;

@@ -1,12 +1,10 @@
 //! A to-do as a whole, and the moments at which it occurs.
-ghost use Rattle.std.specs.Prelude.{◌↔◌, ℕ, List, IfOk, IsTrue};
+ghost use Rattle.std.specs.Prelude.{◌↔◌, ℕ, List, IfOk};
 ghost use Rattle.std.specs.List.{Contains};
 ghost use Rattle.std.specs.List.Sorted.{IsStrictlySortedBy};
 ghost use Rattle.itip_items.specs.declared.item.Item.{Item};
 ghost use Rattle.itip_moment.specs.declared.moment.Moment.{Moment};
 ghost use Rattle.itip_moment.specs.Order.{moment_cmp};
-ghost use Rattle.itip_recur.specs.Members.{Occurs};
-ghost use Rattle.itip_view.specs.InQuestion.{OccursAt};
 ghost use Rattle.itip_view.specs.OfUid.{IsWhole, AreOccurrencesOf};
 
 use crate::NoMemory;
@@ -14,7 +12,7 @@ use crate::standing::is_live;
 use crate::window::Window;
 use itip_items::Item;
 use itip_moment::Moment;
-use itip_recur::{Series, Shape, all_occurrences, shape};
+use itip_recur::{Shape, all_occurrences, shape};
 use itip_state::ItemsOfUid;
 use std::alloc::Global;
 
@@ -68,32 +66,4 @@ pub(crate) fn occurrences(
         Shape::Repeats(series) => all_occurrences(alloc, series, window.from, window.to),
         Shape::Single | Shape::Opaque => Ok(Vec::new(alloc)),
     }
-}
-
-/// Whether a to-do has an occurrence at a moment; false unless it repeats.
-pub(crate) fn occurs_at(
-    alloc: Global,
-    whole: &Option<Whole<'_>>,
-    at: &Moment,
-) -> Result<bool, NoMemory>
-    ensures { IfOk result (λ occurs. (heard : List Item) (uid : List ℕ)
-        → IsWhole heard uid whole.now → IsTrue occurs ↔ OccursAt heard uid at.now) }
-{
-    let Some(whole) = whole else {
-        return Ok(false);
-    };
-    match &whole.shape {
-        Shape::Repeats(series) => occurs(alloc, series, at),
-        Shape::Single | Shape::Opaque => Ok(false),
-    }
-}
-
-/// Whether a series has an occurrence at a moment. Only the occurrences of its day are listed.
-fn occurs(alloc: Global, series: &Series, at: &Moment) -> Result<bool, NoMemory>
-    ensures { IfOk result (λ occurs. IsTrue occurs ↔ Occurs series.now at.now) }
-{
-    let day = at.day();
-    let next = day + 1;
-    let moments = all_occurrences(alloc, series, day, next)?;
-    Ok(moments.binary_search(at).is_ok())
 }

@@ -6,7 +6,8 @@ use Rattle.itip_message.specs.declared.error.MessageRefusal.{MessageRefusal}
 use Rattle.itip_items.specs.declared.item.Item.{Item}
 use Rattle.itip_state.specs.Kept.{AreKept, SameItems}
 use Rattle.itip_desk.specs.Desk.{Shown, IsDeskOf, IsDeltaOf}
-use Rattle.itip_desk.specs.Heard.{heard, Ticks}
+use Rattle.itip_desk.specs.Heard.{heard}
+use Rattle.itip_desk.specs.Ticks.{Ticks}
 use Rattle.itip_desk.specs.Octets.{AscendOctets}
 use Rattle.itip_desk.proofs.Steps.{moved_of_all, moved_whole, keep_same_down}
 use Rattle.itip_desk.specs.Delta.{delta_octets}

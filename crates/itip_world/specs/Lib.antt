@@ -1,5 +1,6 @@
 pub use Rattle.itip_state.specs.Kept
 pub use Rattle.itip_desk.specs.Heard
+pub use Rattle.itip_desk.specs.Ticks
 pub use Rattle.itip_desk.specs.Desk
 pub mod Worlds
 pub mod WorldCode

@@ -13,7 +13,7 @@ use Rattle.itip_message.specs.declared.error.ReadError.TheVariants as read
 use Rattle.itip_state.specs.Kept.{AreKept, AreMoved, HasEachOnce}
 use Rattle.itip_desk.specs.Desk.{Shown, IsCarriedOn}
 use Rattle.itip_desk.specs.DeskFile.{IsTold}
-use Rattle.itip_desk.specs.Heard.{TickStep}
+use Rattle.itip_desk.specs.Ticks.{TickStep}
 use Rattle.itip_desk.specs.declared.refusal.Refusal.TheVariants.{Message, TicksSpent, TooManyRows, NoDesk, NoPacket, NoCommand}
 use Rattle.itip_desk.specs.declared.refusal.Refusal.TheVariants.{LongScript, LongDelta, File}
 use Rattle.itip_desk.specs.declared.refusal.Refusal.{Refusal}

@@ -4,7 +4,8 @@ use Rattle.itip_message.specs.Message.{ReadsMessage, RefusesMessage}
 use Rattle.itip_message.specs.declared.error.MessageRefusal.{MessageRefusal}
 use Rattle.itip_items.specs.declared.item.Item.{Item}
 use Rattle.itip_state.specs.Kept.{AreKept, SameItems, AreMoved, Moves, HasEachOnce}
-use Rattle.itip_desk.specs.Heard.{heard, Ticks, TellsAfter}
+use Rattle.itip_desk.specs.Heard.{heard}
+use Rattle.itip_desk.specs.Ticks.{Ticks, TellsAfter}
 use Rattle.itip_desk.specs.Desk.{Shown, IsDeskOf}
 use Rattle.itip_desk.specs.Octets.{AscendOctets}
 use Rattle.itip_desk.specs.declared.refusal.Refusal.{Refusal}

@@ -1,6 +1,7 @@
 pub mod Spelt
 pub mod Framing
 pub mod Twins
+pub mod SortedTwins
 pub mod Requested
 pub mod OneRequest
 pub mod RequestStands
@@ -35,3 +36,4 @@ pub mod RemovedAnswers
 pub mod CancelCauses
 pub mod EndsTold
 pub mod MappedTests
+pub mod AttendeeKeys

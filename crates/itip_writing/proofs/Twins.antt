@@ -154,7 +154,7 @@ twin_itself a b same =
     subst (λ (r : Bool). beq a.range r ≡ true) (range_same a b same) (range_itself a.range) in
     λ i. (uid i && rid i) && range i
 
-or_none : (a b : Bool) → (a || b) ≡ false → (a ≡ false) × (b ≡ false)
+pub or_none : (a b : Bool) → (a || b) ≡ false → (a ≡ false) × (b ≡ false)
 or_none true b e = absurd cc
 or_none false b e = (refl, e)
 

@@ -1,7 +1,10 @@
 -- The message that removes attendees (RFC 5546 3.4.5): a CANCEL without STATUS that names them. Its SEQUENCE and DTSTAMP are our own
 -- rules.
 use Rattle.std.specs.Prelude.{◌≡◌, ◌≤◌, ◌<◌, ℕ, Bool, false, List, [], ◌∷◌, map, length, Option, Some, None}
+use Rattle.std.specs.BTreeSet.{BTreeSet, contains}
+use Rattle.std.specs.Cmp.Lexicographic.{slice_cmp}
 use Rattle.std.specs.List.{Contains, filter, list_any}
+use Rattle.std.specs.Ordering.{nat_cmp}
 use Rattle.itip_moment.specs.declared.moment.Moment.{Moment}
 use Rattle.itip_moment.specs.declared.stamp.Stamp.{Stamp}
 use Rattle.itip_todo.specs.Participation.{same_text}
@@ -129,6 +132,12 @@ abbrev pub CannotRemove : List Item → List ℕ → Option Moment → List (Lis
 CannotRemove heard uid id addresses at =
     IfCause (NoneInQuestion heard uid id) (IsNobody heard uid id addresses) (IsRemovalSpent heard uid id addresses)
     (IsRemovalOvertaken heard uid id addresses) ⊥ (IsRemovalLate heard uid id addresses at) (IsRemovalUnread heard uid id addresses at)
+
+-- ---- keys that are looked up (our own form)
+
+-- the set has the keys of these, and no others
+abbrev pub HasKeys : {X : Type 0} → (X → List ℕ) → List X → BTreeSet (List ℕ) → Type 0
+HasKeys key_of xs set = (key : List ℕ) → contains (slice_cmp nat_cmp) set key ≡ list_any (λ x. same_text key (key_of x)) xs
 
 -- ---- one answer after the other (our own form)
 

@@ -4,8 +4,9 @@ use Rattle.std.specs.Prelude.{◌≡◌, ◌≢◌, ℕ, Bool, false, ◌&&◌, 
 use Rattle.std.specs.BTreeMap.{BTreeMap, get}
 use Rattle.std.specs.Cmp.Lexicographic.{slice_cmp}
 use Rattle.std.specs.List.{AllByRecursion, AllPairs, AllZip, Contains, list_any}
-use Rattle.std.specs.Option.{option_eq}
-use Rattle.std.specs.Ordering.{eq_by_cmp, nat_cmp}
+use Rattle.std.specs.Option.{option_cmp, option_eq}
+use Rattle.std.specs.Ordering.{bool_cmp, eq_by_cmp, nat_cmp, ordering_then}
+use Rattle.std.specs.declared.cmp.Ordering.{Ordering}
 use Rattle.itip_moment.specs.Order.{moment_cmp}
 use Rattle.itip_moment.specs.declared.stamp.Stamp.{Stamp}
 use Rattle.itip_todo.specs.Participation.{same_text}
@@ -72,6 +73,12 @@ is_twin todo other =
 abbrev pub has_twins : List Todo → Bool
 has_twins [] = false
 has_twins (todo ∷ others) = list_any (is_twin todo) others || has_twins others
+
+-- an order in which to-dos with the same key are neighbours: by UID, RECURRENCE-ID and RANGE
+abbrev pub twin_cmp : Todo → Todo → Ordering
+twin_cmp todo other =
+    ordering_then (ordering_then (slice_cmp nat_cmp todo.uid other.uid) (option_cmp moment_cmp todo.rid other.rid))
+    (bool_cmp todo.range other.range)
 
 -- the bytes of a request, which may be too long to be read
 pub record IsRequestText (heard : List Item) (draft : List Todo) (at : Stamp) (octets : List ℕ) : Type 0 where

@@ -84,7 +84,7 @@ pub(crate) fn governing<'a>(
     ensures none { IfErr result (IfNothing (NoneInQuestion items.now.items items.now.uid (option_copied id.entry))) }
 {
     let question = InQuestion::of(alloc, items)?;
-    match question.governing(id)? {
+    match question.governing(id) {
         Some(item) => Ok(item),
         None => Err(WritingError::NothingStands),
     }

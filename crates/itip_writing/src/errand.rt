@@ -11,7 +11,7 @@ use crate::error::WritingError;
 use crate::lacking::lacking_of_items;
 use crate::onward::onward_cancellation;
 use crate::refresh::refresh_of;
-use crate::removal::removal;
+use crate::removing::removal;
 use crate::reply::reply_to;
 use crate::request::request_of;
 use itip_moment::{Moment, Stamp};

@@ -5,6 +5,7 @@
 
 mod answer;
 mod asked;
+mod attendee_keys;
 mod brief;
 mod cancel;
 mod cancel_laws;
@@ -15,11 +16,12 @@ mod laws;
 mod message;
 mod onward;
 mod refresh;
-mod removal;
+mod removing;
 mod reply;
 mod request;
 mod request_laws;
 mod rid;
+mod same_key;
 mod stamping;
 mod version;
 
@@ -33,6 +35,7 @@ pub use error::WritingError;
 pub use laws::{answers_are_shown, messages_are_read, refreshes_are_wanted, writing_of_kept};
 pub use onward::onward_cancellation;
 pub use refresh::refresh_of;
+pub use removing::removal;
 pub use reply::reply_to;
 pub use request::request_of;
 pub use request_laws::{one_request, request_stands};

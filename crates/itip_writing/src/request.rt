@@ -2,14 +2,13 @@
 ghost use Rattle.std.specs.Prelude.{◌≡◌, ◌≤◌, ℕ, List, cond, Some, None, IfOk, OnOk, IfErr};
 ghost use Rattle.std.specs.BTreeMap.{get, is_at};
 ghost use Rattle.std.specs.Cmp.Lexicographic.{slice_cmp};
-ghost use Rattle.std.specs.List.{list_any};
 ghost use Rattle.std.specs.Ordering.{nat_cmp};
 ghost use Rattle.itip_todo.specs.PartsOf.{parts_of};
 ghost use Rattle.itip_todo.specs.declared.todo.Todo.{Todo};
 ghost use Rattle.itip_report.specs.Organizing.{IsNext};
 ghost use Rattle.itip_writing.specs.Causes.{IfSpent};
 ghost use Rattle.itip_writing.specs.Lacking.{lacking_in_request};
-ghost use Rattle.itip_writing.specs.Requesting.{IsRequest, CannotRequest, AreRequested, AreNext, has_twins, is_twin};
+ghost use Rattle.itip_writing.specs.Requesting.{IsRequest, CannotRequest, AreRequested, AreNext};
 ghost use Rattle.itip_writing.specs.Requesting.{requested, base_above};
 
 use crate::NoMemory;
@@ -17,6 +16,7 @@ use crate::errand::Message;
 use crate::error::WritingError;
 use crate::lacking::lacking_in_request;
 use crate::message::{readable, write_message};
+use crate::same_key::has_twins;
 use itip_items::Method;
 use itip_moment::Stamp;
 use itip_report::next_seq;
@@ -61,7 +61,8 @@ fn request_octets(
     ensures fault { IfErr result (CannotRequest state.now draft.now at) }
 {
     let all = requested(alloc, state, draft, at)?;
-    if has_twins(draft) {
+    let twins = has_twins(alloc, draft)?;
+    if twins {
         drop(all);
         return Err(WritingError::TwoOfOneKey);
     }
@@ -144,32 +145,4 @@ fn base_above(sequence: u32, base: Option<u32>) -> Option<u32>
         Some(base) => (sequence < base).then_some(base),
         None => None,
     }
-}
-
-/// Whether two to-dos have the same key. Each is compared with all after it; a message of more than 1,000 can't be read back anyway.
-fn has_twins(draft: &[Todo]) -> bool
-    ensures { result ≡ has_twins draft.now }
-{
-    let mut rest = draft;
-    while let [todo, others @ ..] = rest {
-        if has_twin(todo, others) {
-            return true;
-        }
-        rest = others;
-    }
-    false
-}
-
-/// Whether one of the others has the key of a to-do.
-fn has_twin(todo: &Todo, others: &[Todo]) -> bool
-    ensures { result ≡ list_any (is_twin todo.now) others.now }
-{
-    others.iter().any(|other| is_twin(todo, other))
-}
-
-/// Whether two to-dos have the same key. Only the to-do of an instance can have a RANGE.
-fn is_twin(todo: &Todo, other: &Todo) -> bool
-    ensures { result ≡ is_twin todo.now other.now }
-{
-    todo.uid == other.uid && todo.rid == other.rid && todo.range == other.range
 }

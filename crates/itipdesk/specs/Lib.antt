@@ -4,6 +4,7 @@ pub use Rattle.itip_message.specs.Building
 pub use Rattle.itip_state.specs.Kept
 pub use Rattle.itip_state.specs.Order
 pub use Rattle.itip_desk.specs.Heard
+pub use Rattle.itip_desk.specs.Ticks
 pub use Rattle.itip_desk.specs.Desk
 pub use Rattle.itip_desk.specs.Delta
 pub use Rattle.itip_desk.specs.DeskFile
@@ -12,5 +13,5 @@ pub use Rattle.itip_view.specs.Rows
 pub use Rattle.itip_view.specs.Showing
 pub use Rattle.itip_view.specs.ByUid
 pub use Rattle.itip_view.specs.ListText
-pub use Rattle.itip_running.specs.Ends
+pub use Rattle.itip_running.specs.Seen
 pub use Rattle.itip_running.specs.Deltas

@@ -71,7 +71,9 @@ impl fmt::Display for Error {
             Error::Window => f.write_str("the window has no day, or more than 3,660"),
             Error::Text => f.write_str("the text is no day, or no date-time in UTC"),
             Error::NoMemory => f.write_str("memory was refused"),
-            Error::NoPlace => f.write_str("no thread, or no place at a running desk"),
+            Error::NoPlace => f.write_str(
+                "no thread, no place at a running desk, or not one to eight passes",
+            ),
             Error::NoEntry => f.write_str("no entry to a running desk"),
             Error::Office(error) => write!(f, "{error}"),
             Error::Stream(fault) => write!(f, "{fault}"),

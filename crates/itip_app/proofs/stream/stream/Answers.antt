@@ -2,7 +2,9 @@ use Rattle.itip_app.proofs.stream.stream.Goals as goal
 
 pub returns : goal.returns
 returns g c = record {
+  explained = c.causes.ensures.known;
   done = c.stream_on-done.result;
   comes = record { served = c.stream_on-done.ensures.served; unserved = c.stream_on-done.ensures.unserved };
-  status_is = c.served.ensures;
+  told = c.served.ensures.told;
+  status_is = c.served.ensures.status;
 }

@@ -22,7 +22,7 @@ loop-line-preserved c =
     ap (λ (x : Property). take i lines ++ x ∷ []) (sym c.line-item.is) in
     subst (λ (after : List Asking). AddsAskings (AsksLines by (take (i + 1) lines)) before after) (sym c.in_ok-push.ensures.items)
     (subst (λ (ls : List Property). AddsAskings (AsksLines by ls) before (found ++ asking ∷ [])) (sym done)
-    (lines_more by (take i lines) line before found asking refl (c.in_ok-attendee.ensures ∙ ap attendee_key c.value.ensures)
+    (lines_more by (take i lines) line before found asking refl (c.in_ok-attendee.ensures.key ∙ ap attendee_key c.value.ensures)
     c.loop-line.invariant))
 
 pub returns : goal.returns

@@ -27,7 +27,7 @@ loop-one-preserved c =
     let line : List ℕ = string_bytes c.in_ok-line.line in
     line_more (told_to c.args.fates.now) c.args.names.now c.told-one-items.result.now c.loop-one.one-index c.one-item.result line
     c.loop-one.text.items c.extend_from_slice.new.self.items c.told-one-items.ensures c.loop-one-test.true c.one-item.is
-    (λ rest others. (c.in_ok-became.became, rest, c.in_ok-became.ensures, others, ap (λ (xs : List ℕ). xs ++ rest) c.in_ok-line.ensures))
+    (λ rest others. (c.fate-became.result, rest, c.fate-became.ensures, others, ap (λ (xs : List ℕ). xs ++ rest) c.in_ok-line.ensures))
     (c.in_ok-extend_from_slice.ensures.items ∙
     ap (λ (xs : List ℕ). c.loop-one.text.items ++ xs) (c.as_bytes.ensures.value ∙ c.as_str.ensures.value)) c.loop-one.invariant
 

@@ -1,4 +1,4 @@
-use Rattle.std.proofs.Common.{ℕ, ◌<◌, arith}
+use Rattle.std.proofs.Common.{ℕ, ◌<◌, inl, inr, arith}
 use Rattle.std.proofs.lemmas.Result.{IfOk-weaker}
 use Rattle.itip_script.specs.Stream.{ReadsBody, body_of}
 use Rattle.itip_script.specs.declared.body.Body.{Body}
@@ -23,3 +23,9 @@ pub returns-in-None-clause-reads : goal.returns-in-None-clause-reads
 returns-in-None-clause-reads g c =
     short_body c.args.limit c.args.octets (g.R.Read.remaining c.args.reader.now) (g.R.Read.remaining c.read_octets.new.reader)
     (rw c.in-None.is at c.in_ok-octets.ensures.reads)
+
+pub returns-in-Some-clause-well : goal.returns-in-Some-clause-well
+returns-in-Some-clause-well g c = inr (rw c.in-Some.is at c.in_ok-octets.ensures.well)
+
+pub returns-in-None-clause-well : goal.returns-in-None-clause-well
+returns-in-None-clause-well g c = inl (rw c.in-None.is at c.in_ok-octets.ensures.well)

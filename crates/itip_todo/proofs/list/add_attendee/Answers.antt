@@ -14,7 +14,7 @@ was_new true added e h = let never : false ≡ true = sym e ∙ h in absurd cc
 
 pub returns-clause-taken : goal.returns-clause-taken
 returns-clause-taken c =
-    let key : c.in_ok-key.key ≡ key_of c.args.line.now = c.in_ok-key.ensures ∙ ap attendee_key c.value-2.ensures in
+    let key : c.in_ok-key.key ≡ key_of c.args.line.now = c.in_ok-key.ensures.key ∙ ap attendee_key c.value-2.ensures in
     let free : contains (slice_cmp nat_cmp) c.args.draft.now.keys (key_of c.args.line.now) ≡ false =
     subst (λ (k : List ℕ). contains (slice_cmp nat_cmp) c.args.draft.now.keys k ≡ false) key
     (was_new (contains (slice_cmp nat_cmp) c.args.draft.now.keys c.in_ok-key.key) c.in_ok-insert.field-0 c.in_ok-insert.ensures.added

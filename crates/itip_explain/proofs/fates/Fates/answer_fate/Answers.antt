@@ -21,8 +21,8 @@ pub fate_under-requires-clause-in_question : goal.fate_under-requires-clause-in_
 fate_under-requires-clause-in_question c =
     let part = c.args.self.now.question in
     question_up (heard_by c.args.self.now) part.items part.uid c.requires.about c.requires.kept c.args.id.now c.in-Some.governing.now
-    (at_id part.items part.uid (option_copied c.as_ref.result) c.args.id.now c.in_ok-governing.field-0 (Some c.in-Some.governing)
-    c.as_ref.ensures.value c.in-Some.is c.in_ok-governing.ensures)
+    (at_id part.items part.uid (option_copied c.as_ref.result) c.args.id.now c.governing.result (Some c.in-Some.governing)
+    c.as_ref.ensures.value c.in-Some.is c.governing.ensures)
 
 pub returns-in-Some : goal.returns-in-Some
 returns-in-Some c =
@@ -31,8 +31,8 @@ returns-in-Some c =
       governing = c.in-Some.governing.now;
       in_question = question_up (heard_by c.args.self.now) part.items part.uid c.requires.about c.requires.kept c.args.id.now
           c.in-Some.governing.now
-          (at_id part.items part.uid (option_copied c.as_ref.result) c.args.id.now c.in_ok-governing.field-0 (Some c.in-Some.governing)
-          c.as_ref.ensures.value c.in-Some.is c.in_ok-governing.ensures);
+          (at_id part.items part.uid (option_copied c.as_ref.result) c.args.id.now c.governing.result (Some c.in-Some.governing)
+          c.as_ref.ensures.value c.in-Some.is c.governing.ensures);
       under = c.fate_under.ensures;
     })
 
@@ -41,7 +41,7 @@ returns-in-None c =
     let part = c.args.self.now.question in
     inl (
       no_question_up (heard_by c.args.self.now) part.items part.uid c.requires.about c.requires.kept c.args.id.now
-          (at_id part.items part.uid (option_copied c.as_ref.result) c.args.id.now c.in_ok-governing.field-0 None
-          c.as_ref.ensures.value c.in-None.is c.in_ok-governing.ensures),
+          (at_id part.items part.uid (option_copied c.as_ref.result) c.args.id.now c.governing.result None
+          c.as_ref.ensures.value c.in-None.is c.governing.ensures),
       refl,
     )

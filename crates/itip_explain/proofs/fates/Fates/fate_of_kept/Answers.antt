@@ -1,6 +1,5 @@
 use Rattle.std.proofs.Common.{ℕ, List, subst, inr}
-use Rattle.itip_state.proofs.Members.{if_ok_then}
-use Rattle.itip_explain.specs.Fates.{IsFate, IsAnswerFate}
+use Rattle.itip_explain.specs.Fates.{IsAnswerFate}
 use Rattle.itip_explain.specs.Knowing.{told_to}
 use Rattle.itip_explain.proofs.Becoming.{at_series, at_instance, at_range, at_answer, at_refresh}
 use Rattle.itip_explain.proofs.fates.Fates.fate_of_kept.Goals as goal
@@ -37,12 +36,12 @@ returns-in-Answer c =
     let told = told_to c.args.self.now in
     let uid = c.args.self.now.question.uid in
     let about = c.requires.sound.about c.args.item.now c.requires.kept.best.is_heard in
-    if_ok_then (IsAnswerFate told uid c.in-Answer.id c.as_str.result.now c.args.item.now) (IsFate told c.args.item.now) c.answer_fate.result
-    (λ became is. inr (inr (record {
+    inr (inr (record {
       kept = c.requires.kept;
-      by_key = at_answer told c.args.item.now became uid about c.in-Answer.field-0 c.in-Answer.id c.in-Answer.attendee c.in-Answer.is
-          (subst (λ (a : List ℕ). IsAnswerFate told uid c.in-Answer.id a c.args.item.now became) c.as_str.ensures is);
-    }))) c.answer_fate.ensures
+      by_key = at_answer told c.args.item.now c.answer_fate.result uid about c.in-Answer.field-0 c.in-Answer.id c.in-Answer.attendee
+          c.in-Answer.is (subst (λ (a : List ℕ). IsAnswerFate told uid c.in-Answer.id a c.args.item.now c.answer_fate.result)
+          c.as_str.ensures c.answer_fate.ensures);
+    }))
 
 pub returns-in-Refresh : goal.returns-in-Refresh
 returns-in-Refresh c =

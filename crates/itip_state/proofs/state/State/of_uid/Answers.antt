@@ -4,9 +4,11 @@ use Rattle.itip_state.specs.Kept.{ArePart}
 use Rattle.itip_state.specs.OfUid.{IsUidPart}
 use Rattle.itip_state.specs.Order.{IsState}
 use Rattle.itip_state.specs.Held.{uid_state_items}
+use Rattle.std.specs.List.{Contains}
 use Rattle.itip_state.specs.UidStates.{uid_state}
 use Rattle.itip_state.proofs.Maps.{held_state}
-use Rattle.itip_state.proofs.Reading.{held_part, held_no_part, held_ascends}
+use Rattle.itip_state.proofs.Members.{none_in}
+use Rattle.itip_state.proofs.Reading.{held_part, held_no_part, held_ascends, held_some}
 use Rattle.itip_state.proofs.UidParts.{uid_part}
 use Rattle.itip_state.proofs.state.State.of_uid.Goals as goal
 
@@ -37,3 +39,9 @@ returns-clause-items c =
     subst (λ (xs : List Item). ArePart c.args.uid.now xs c.args.self.now) are
     (subst (λ (v : List Item). ArePart c.args.uid.now shown v) c.self.view_is
     (held_part c.self.inside.held c.self.invariant c.args.uid.now (uid_state c.in-Some.held.now) (sym c.in-Some.ensures.found)))
+
+pub returns-in_err-show-clause-succeeds : goal.returns-in_err-show-clause-succeeds
+returns-in_err-show-clause-succeeds c = λ none.
+    let some = held_some c.self.inside.held c.self.invariant c.args.uid.now (uid_state c.in-Some.held.now)
+    (sym c.in-Some.ensures.found) in
+    absurd (none_in some.0 ((none some.0).1 (subst (λ (v : List Item). Contains v some.0) c.self.view_is some.1, some.2)))

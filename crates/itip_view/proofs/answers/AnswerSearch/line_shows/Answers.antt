@@ -24,7 +24,7 @@ returns-in_default c = λ answer decides.
     let line : Property = c.args.line.now in
     let found : Option Item = option_copied c.deciding-answer.result in
     let same : c.as_str.result.now ≡ attendee_key line.value =
-    c.as_str.ensures ∙ c.in_ok-key.ensures ∙ ap attendee_key c.value-shown.ensures in
+    c.as_str.ensures ∙ c.in_ok-key.ensures.key ∙ ap attendee_key c.value-shown.ensures in
     let is : Decides items (asked line) found =
     subst (λ (key : List ℕ). Decides items (asked_of c.args.self.now.items.now.uid c.args.self.now.questions.now key) found) same
     c.deciding-answer.ensures in
@@ -38,7 +38,7 @@ returns c = λ answer decides.
     let line : Property = c.args.line.now in
     let found : Option Item = option_copied c.deciding-answer.result in
     let same : c.as_str.result.now ≡ attendee_key line.value =
-    c.as_str.ensures ∙ c.in_ok-key.ensures ∙ ap attendee_key c.value-shown.ensures in
+    c.as_str.ensures ∙ c.in_ok-key.ensures.key ∙ ap attendee_key c.value-shown.ensures in
     let is : Decides items (asked line) found =
     subst (λ (key : List ℕ). Decides items (asked_of c.args.self.now.items.now.uid c.args.self.now.questions.now key) found) same
     c.deciding-answer.ensures in

@@ -1,6 +1,8 @@
-use Rattle.std.proofs.Common.{ℕ, List, map, refl, arith}
+use Rattle.std.proofs.Common.{ℕ, List, map, refl, subst, arith}
 use Rattle.std.specs.Ordering.{nat_cmp}
 use Rattle.std.specs.Cmp.Lexicographic.{slice_cmp}
+use Rattle.itip_state.specs.Kept.{AreUidsOf}
+use Rattle.itip_state.proofs.Nothing.{no_uids, not_ok}
 use Rattle.itip_view.specs.Wanting.{Wants}
 use Rattle.itip_view.proofs.Gathering.{uid_of_row, all_gathered, all_among}
 use Rattle.itip_view.proofs.Left.{sorted_by_pairs}
@@ -32,3 +34,11 @@ returns-clause-asked c = record {
     },
   );
 }
+
+pub returns-clause-none : goal.returns-clause-none
+returns-clause-none c = λ none.
+    let uids : List (List ℕ) = map (λ uid. uid.now) c.in_ok-uids.uids.items in
+    no_uids uids (subst (AreUidsOf uids) none c.in_ok-uids.ensures.uids)
+
+pub returns-in_err-uids-clause-succeeds : goal.returns-in_err-uids-clause-succeeds
+returns-in_err-uids-clause-succeeds c = λ none. not_ok (c.in_err-uids.ensures.succeeds none)

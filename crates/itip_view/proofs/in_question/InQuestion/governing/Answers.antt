@@ -1,5 +1,5 @@
 use Rattle.std.proofs.Common.{sym, ap, subst, List, ℕ, Option, None}
-use Rattle.std.specs.Prelude.{IfOk, MatchOption}
+use Rattle.std.specs.Prelude.{MatchOption}
 use Rattle.std.specs.Option.{option_copied}
 use Rattle.itip_moment.specs.declared.moment.Moment.{Moment}
 use Rattle.itip_items.specs.declared.item.Item.{Item}
@@ -16,8 +16,8 @@ IsItemInQuestion items uid id found = MatchOption found (NoneInQuestion items ui
 
 pub returns-in-Some : goal.returns-in-Some
 returns-in-Some c =
-    subst (λ (id : Option Moment). IfOk c.governing_at.result (λ found. IsItemInQuestion c.args.self.now.items c.args.self.now.uid id
-    (option_copied found))) (ap option_copied (sym c.in-Some.is)) c.governing_at.ensures
+    subst (λ (id : Option Moment). IsItemInQuestion c.args.self.now.items c.args.self.now.uid id (option_copied c.governing_at.result))
+    (ap option_copied (sym c.in-Some.is)) c.governing_at.ensures
 
 pub returns-in-None : goal.returns-in-None
 returns-in-None c =

@@ -3,10 +3,10 @@ use Rattle.std.specs.Prelude.{MatchOption}
 use Rattle.itip_moment.specs.declared.moment.Moment.{Moment}
 use Rattle.itip_items.specs.declared.item.Item.{Item}
 use Rattle.itip_state.specs.OfUid.{UidPart}
-use Rattle.itip_view.specs.OfUid.{IsWhole}
+use Rattle.itip_view.specs.OccurringWhole.{IsOccurringWhole}
 use Rattle.itip_view.specs.Standing.{Rules, NoneRules}
 use Rattle.itip_view.specs.declared.keyed_item.KeyedItem.{KeyedItem}
-use Rattle.itip_view.specs.declared.whole.Whole.{Whole}
+use Rattle.itip_view.specs.declared.occurring_whole.OccurringWhole.{OccurringWhole}
 use Rattle.itip_view.proofs.Asking.{question_nowhere, none_occurs}
 use Rattle.itip_view.proofs.in_question.InQuestion.row_between.Goals as goal
 
@@ -22,27 +22,27 @@ pub returns-in_default : goal.returns-in_default
 returns-in_default c =
     let items : List Item = c.args.self.now.items in
     let uid : List ℕ = c.args.self.now.uid in
-    let whole : IsWhole items uid None = subst (λ (w : Option Whole). IsWhole items uid w) c.in_default.is
-    (subst (λ (p : UidPart). IsWhole p.items p.uid c.self.inside.whole) c.self.view_is c.self.invariant.0) in
+    let whole : IsOccurringWhole items uid None = subst (λ (w : Option OccurringWhole). IsOccurringWhole items uid w) c.in_default.is
+    (subst (λ (p : UidPart). IsOccurringWhole p.items p.uid c.self.inside.whole) c.self.view_is c.self.invariant.0) in
     question_nowhere items uid c.args.at.now c.requires (none_occurs items uid whole c.args.at.now)
 
-pub returns-then-not-branch : goal.returns-then-not-branch
-returns-then-not-branch c =
+pub returns-then-not-occurs_at : goal.returns-then-not-occurs_at
+returns-then-not-occurs_at c =
     let items : List Item = c.args.self.now.items in
     let uid : List ℕ = c.args.self.now.uid in
-    let off : c.in_ok-occurs_at.field-0 ≡ false = search rules in
-    let whole : IsWhole items uid c.self.inside.whole =
-    subst (λ (p : UidPart). IsWhole p.items p.uid c.self.inside.whole) c.self.view_is c.self.invariant.0 in
+    let off : c.occurs_at.result ≡ false = search rules in
+    let whole : IsOccurringWhole items uid c.self.inside.whole =
+    subst (λ (p : UidPart). IsOccurringWhole p.items p.uid c.self.inside.whole) c.self.view_is c.self.invariant.0 in
     question_nowhere items uid c.args.at.now c.requires (λ o. let x : true ≡ false =
-    sym ((c.in_ok-occurs_at.ensures items uid whole).1 o) ∙ off in cc)
+    sym ((c.occurs_at.ensures items uid whole).1 o) ∙ off in cc)
 
 pub range_row-requires-clause-occurs : goal.range_row-requires-clause-occurs
 range_row-requires-clause-occurs c =
     let items : List Item = c.args.self.now.items in
     let uid : List ℕ = c.args.self.now.uid in
-    let on : c.in_ok-occurs_at.field-0 ≡ true = search rules in
-    (c.in_ok-occurs_at.ensures items uid
-    (subst (λ (p : UidPart). IsWhole p.items p.uid c.self.inside.whole) c.self.view_is c.self.invariant.0)).0 on
+    let on : c.occurs_at.result ≡ true = search rules in
+    (c.occurs_at.ensures items uid
+    (subst (λ (p : UidPart). IsOccurringWhole p.items p.uid c.self.inside.whole) c.self.view_is c.self.invariant.0)).0 on
 
 pub range_row-requires-clause-rules : goal.range_row-requires-clause-rules
 range_row-requires-clause-rules c =
@@ -53,9 +53,9 @@ pub occurrence_row-requires-clause-occurs : goal.occurrence_row-requires-clause-
 occurrence_row-requires-clause-occurs c =
     let items : List Item = c.args.self.now.items in
     let uid : List ℕ = c.args.self.now.uid in
-    let on : c.in_ok-occurs_at.field-0 ≡ true = search rules in
-    (c.in_ok-occurs_at.ensures items uid
-    (subst (λ (p : UidPart). IsWhole p.items p.uid c.self.inside.whole) c.self.view_is c.self.invariant.0)).0 on
+    let on : c.occurs_at.result ≡ true = search rules in
+    (c.occurs_at.ensures items uid
+    (subst (λ (p : UidPart). IsOccurringWhole p.items p.uid c.self.inside.whole) c.self.view_is c.self.invariant.0)).0 on
 
 pub occurrence_row-requires-clause-none_rules : goal.occurrence_row-requires-clause-none_rules
 occurrence_row-requires-clause-none_rules c =

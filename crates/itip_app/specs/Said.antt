@@ -1,0 +1,13 @@
+-- What is said of refused messages (docs/USING.md; our own rule).
+use Rattle.std.specs.Prelude.{◌≡◌, ℕ, List, Option}
+use Rattle.itip_desk.specs.Refusals.{number_of}
+use Rattle.itip_desk.specs.declared.refusal.Refusal.TheVariants.{Message}
+use Rattle.itip_inbox.specs.declared.refused.RefusedMessage.{RefusedMessage}
+use Rattle.itip_streams.specs.Told.{place_of, refusal_at}
+use Rattle.itip_streams.specs.Visible.{visible}
+use Rattle.itip_streams.specs.declared.source_name.SourceName.{SourceName}
+
+-- the line about a refused message of a source, with the cause if there is one to say
+abbrev pub IsRefusedLine : SourceName → RefusedMessage → Option (List ℕ) → List ℕ → Type 0
+IsRefusedLine name refused cause line =
+    line ≡ visible (refusal_at (place_of name refused.message) (number_of (Message refused.refusal)) cause)
