@@ -35,9 +35,10 @@ use Rattle.itip_app.specs.declared.given.NoWords.{NoWords}
 use Rattle.itip_app.specs.declared.given.NoWords.TheVariants as no_words
 use Rattle.itip_app.specs.declared.stream.Unserved.{Unserved}
 
--- `explains` tells with which flag it was asked what a watch is to say: causes if it is set. `tells` tells with which number a refusal was
--- said, and with which flag: with its cause if that is set. `works` tells how many threads were asked for, `shows` whether it could be
--- said why nothing is run, and `gives` which words the program was given, or why none.
+-- `explains` tells for which call it was asked what its watch is to say. `tells` tells with which number a refusal was said, and with which
+-- flag: with its cause if that is set. `reads` tells for which filter it was asked on how many threads it reads, `employs` how many workers
+-- were asked for, `shows` whether it could be said why nothing is run, `gives` which words the program was given, or why none, `ticks` which
+-- moment its clock showed, or none, and `input_of` what a reader of standard input gives.
 
 -- ---- a script
 
@@ -50,8 +51,7 @@ pub record RunComesTo (scripted : Scripted) (input old new : Option (List ℕ)) 
   pub unread : IsErrOf done Read → Keeps old new
 
 -- The status is that of what the run came to.
-pub record EndsRun (explains : Bool → Type 0) (scripted : Scripted) (input old new : Option (List ℕ)) (status : ℕ) : Type 0 where
-  pub explained : explains scripted.why
+pub record EndsRun (scripted : Scripted) (input old new : Option (List ℕ)) (status : ℕ) : Type 0 where
   pub done : Result Bool StreamFault
   pub comes : RunComesTo scripted input old new done
   pub status_is : status ≡ status_shown done
@@ -66,12 +66,13 @@ pub record OfficeComesTo (scripted : Scripted) (input old new : Option (List ℕ
   pub unread : IsErrOf done (script.Stream Read) → Keeps old new
   pub unended : (error : OfficeError) → IsErrOf done (script.Office error) → Keeps old new
 
--- The status is that of what the office came to.
-pub record EndsOffice (explains : Bool → Type 0) (scripted : Scripted) (input old new : Option (List ℕ)) (status : ℕ) : Type 0 where
-  pub explained : explains scripted.why
-  pub done : Result Bool ScriptError
-  pub comes : OfficeComesTo scripted input old new done
-  pub status_is : status ≡ status_shown done
+-- It was asked for as many workers, and the status is that of what the office came to.
+pub record EndsOffice (employs : ℕ → Type 0) (scripted : Scripted) (workers : ℕ) (input old new : Option (List ℕ)) (status : ℕ) : Type 0
+  where
+    pub employed : employs workers
+    pub done : Result Bool ScriptError
+    pub comes : OfficeComesTo scripted input old new done
+    pub status_is : status ≡ status_shown done
 
 -- ---- a message that is shown
 
@@ -84,8 +85,7 @@ pub record ShowingComesTo (input old new : Option (List ℕ)) (done : Result Boo
   pub unread : IsErrOf done Read → Keeps old new
 
 -- The status is that of what the showing came to.
-pub record EndsShowing (explains : Bool → Type 0) (why : Bool) (input old new : Option (List ℕ)) (status : ℕ) : Type 0 where
-  pub explained : explains why
+pub record EndsShowing (input old new : Option (List ℕ)) (status : ℕ) : Type 0 where
   pub done : Result Bool StreamFault
   pub comes : ShowingComesTo input old new done
   pub status_is : status ≡ status_shown done
@@ -110,22 +110,22 @@ abbrev pub TellsRefused : (ℕ → Bool → Type 0) → Bool → Result Outcome 
 TellsRefused tells why done =
     IfOk done (λ outcome. (refusal : MessageRefusal) → IsUnreadable outcome.undone refusal → tells (number_of refusal) why)
 
--- The status is that of what the filter came to.
-pub record EndsFilter {I : Type 0} (remaining : I → Option (List ℕ)) (tells : ℕ → Bool → Type 0) (works : Option ℕ → Type 0)
+-- It was asked on how many threads this filter reads, and the status is that of what the filter came to.
+pub record EndsFilter {I : Type 0} (remaining : I → Option (List ℕ)) (tells : ℕ → Bool → Type 0) (reads : Filter → Type 0)
     (filter : Filter) (draft : Draft) (names : List SourceName) (than sources : List I) (old new : Option (List ℕ)) (status : ℕ) : Type 0
   where
-    pub worked : works filter.intake.threads
+    pub asked : reads filter
     pub done : Result Outcome StreamFault
     pub comes : FilterComesTo remaining filter.written draft names than sources old new done
     pub told : TellsRefused tells filter.intake.why done
     pub status_is : status ≡ status_filtered done
 
--- A file was replaced, or there was a fault. Nothing is known of the file; whether a message was refused is what the compaction of the
--- sources says.
-pub record EndsReplacing {I : Type 0} (remaining : I → Option (List ℕ)) (tells : ℕ → Bool → Type 0) (works : Option ℕ → Type 0)
+-- The status of replacing a file: it says whether a message of the sources was refused, or that there was a fault. Nothing is known of the
+-- file.
+pub record EndsReplacing {I : Type 0} (remaining : I → Option (List ℕ)) (tells : ℕ → Bool → Type 0) (reads : Filter → Type 0)
     (filter : Filter) (sources : List I) (status : ℕ) : Type 0
   where
-    pub worked : works filter.intake.threads
+    pub asked : reads filter
     pub done : Result Outcome StreamFault
     pub output : IfOk done (λ outcome. (inputs : List (List ℕ)) → AreInputs remaining sources inputs →
         Writes (IsCompaction inputs) None None outcome)
@@ -142,31 +142,28 @@ ReplacesFile (written.News than) = ⊥
 ReplacesFile (written.Explanation uid) = ⊥
 ReplacesFile (written.Message asked at) = ⊥
 
--- Sources of the program are filtered, in place of a file if one is to be replaced, and else to some output; or the status is 3, as it is
--- if there is no memory for them: the clause doesn't say when.
-pub data EndsSources {I : Type 0} (remaining : I → Option (List ℕ)) (tells : ℕ → Bool → Type 0) (works : Option ℕ → Type 0)
+-- Some sources are filtered, to some output; if a file is to be replaced, the status is that of a compaction. Or the status is 3, as it is
+-- if there is no memory for sources: the clause doesn't say when.
+pub data EndsSources {I : Type 0} (remaining : I → Option (List ℕ)) (tells : ℕ → Bool → Type 0) (reads : Filter → Type 0)
     (filter : Filter) (draft : Draft) (status : ℕ) : Type 0
   where
-    unheld : status ≡ 3 → EndsSources remaining tells works filter draft status
-    replaced : (sources : List I) → ReplacesFile filter.written → EndsReplacing remaining tells works filter sources status
-        → EndsSources remaining tells works filter draft status
+    unheld : status ≡ 3 → EndsSources remaining tells reads filter draft status
+    replaced : (sources : List I) → ReplacesFile filter.written → EndsReplacing remaining tells reads filter sources status
+        → EndsSources remaining tells reads filter draft status
     filtered : (names : List SourceName) (than sources : List I) (old new : Option (List ℕ)) → ¬ ReplacesFile filter.written
-        → EndsFilter remaining tells works filter draft names than sources old new status
-        → EndsSources remaining tells works filter draft status
+        → EndsFilter remaining tells reads filter draft names than sources old new status
+        → EndsSources remaining tells reads filter draft status
 
--- A draft was read, or none is asked for, and sources are filtered.
-pub record EndsWithDraft {I : Type 0} (remaining : I → Option (List ℕ)) (explains : Bool → Type 0) (tells : ℕ → Bool → Type 0)
-    (works : Option ℕ → Type 0) (filter : Filter) (status : ℕ) : Type 0
+-- With some draft, sources are filtered.
+pub record EndsWithDraft {I : Type 0} (remaining : I → Option (List ℕ)) (tells : ℕ → Bool → Type 0) (reads : Filter → Type 0)
+    (filter : Filter) (status : ℕ) : Type 0
   where
-    pub explained : explains filter.intake.why
     pub draft : Draft
-    pub ends : EndsSources remaining tells works filter draft status
+    pub ends : EndsSources remaining tells reads filter draft status
 
 -- The same; or the status is 3, as it is if the draft can't be read or there is no memory for names: the clause doesn't say when.
-abbrev pub EndsFiltered : {I : Type 0} → (I → Option (List ℕ)) → (Bool → Type 0) → (ℕ → Bool → Type 0) → (Option ℕ → Type 0) →
-    Filter → ℕ → Type 0
-EndsFiltered remaining explains tells works filter status =
-    (status ≡ 3) ⊎ EndsWithDraft remaining explains tells works filter status
+abbrev pub EndsFiltered : {I : Type 0} → (I → Option (List ℕ)) → (ℕ → Bool → Type 0) → (Filter → Type 0) → Filter → ℕ → Type 0
+EndsFiltered remaining tells reads filter status = (status ≡ 3) ⊎ EndsWithDraft remaining tells reads filter status
 
 -- ---- a stream of commands
 
@@ -178,10 +175,9 @@ pub record ServingComesTo (holds : List ℕ → Option (List ℕ) → Type 0) (s
     pub unserved : IfErr done (IsUnserved holds streamed input left old new)
 
 -- The status is that of what the serving came to.
-pub record EndsServing (holds : List ℕ → Option (List ℕ) → Type 0) (explains : Bool → Type 0) (tells : ℕ → Bool → Type 0)
-    (streamed : Streamed) (input left old new : Option (List ℕ)) (status : ℕ) : Type 0
+pub record EndsServing (holds : List ℕ → Option (List ℕ) → Type 0) (tells : ℕ → Bool → Type 0) (streamed : Streamed)
+    (input left old new : Option (List ℕ)) (status : ℕ) : Type 0
   where
-    pub explained : explains streamed.scripted.why
     pub done : Result Bool Unserved
     pub comes : ServingComesTo holds streamed input left old new done
     pub told : IfFileRefused done (λ refusal. tells (number_of_file refusal) streamed.scripted.why)
@@ -190,19 +186,19 @@ pub record EndsServing (holds : List ℕ → Option (List ℕ) → Type 0) (expl
 -- ---- all of them
 
 -- The status is that of what was asked for. A filter has its own sources and output: `remaining` is what is left of a source.
-pub data EndsCall {I : Type 0} (holds : List ℕ → Option (List ℕ) → Type 0) (remaining : I → Option (List ℕ)) (explains : Bool → Type 0)
-    (tells : ℕ → Bool → Type 0) (works : Option ℕ → Type 0) (what : Call) (input left old new : Option (List ℕ)) (status : ℕ) : Type 0
+pub data EndsCall {I : Type 0} (holds : List ℕ → Option (List ℕ) → Type 0) (remaining : I → Option (List ℕ)) (tells : ℕ → Bool → Type 0)
+    (reads : Filter → Type 0) (employs : ℕ → Type 0) (what : Call) (input left old new : Option (List ℕ)) (status : ℕ) : Type 0
   where
-    of_run : (scripted : Scripted) → what ≡ call.Run scripted → EndsRun explains scripted input old new status
-        → EndsCall holds remaining explains tells works what input left old new status
-    of_stream : (streamed : Streamed) → what ≡ call.Stream streamed → EndsServing holds explains tells streamed input left old new status
-        → EndsCall holds remaining explains tells works what input left old new status
+    of_run : (scripted : Scripted) → what ≡ call.Run scripted → EndsRun scripted input old new status
+        → EndsCall holds remaining tells reads employs what input left old new status
+    of_stream : (streamed : Streamed) → what ≡ call.Stream streamed → EndsServing holds tells streamed input left old new status
+        → EndsCall holds remaining tells reads employs what input left old new status
     of_office : (scripted : Scripted) (workers : ℕ) → what ≡ call.Office scripted workers
-        → EndsOffice explains scripted input old new status → EndsCall holds remaining explains tells works what input left old new status
-    of_check : (why : Bool) → what ≡ call.Check why → EndsShowing explains why input old new status
-        → EndsCall holds remaining explains tells works what input left old new status
-    of_filter : (asked : Filter) → what ≡ call.Filter asked → EndsFiltered remaining explains tells works asked status
-        → EndsCall holds remaining explains tells works what input left old new status
+        → EndsOffice employs scripted workers input old new status → EndsCall holds remaining tells reads employs what input left old new status
+    of_check : (why : Bool) → what ≡ call.Check why → EndsShowing input old new status
+        → EndsCall holds remaining tells reads employs what input left old new status
+    of_filter : (asked : Filter) → what ≡ call.Filter asked → EndsFiltered remaining tells reads asked status
+        → EndsCall holds remaining tells reads employs what input left old new status
 
 -- ---- the program
 
@@ -210,39 +206,43 @@ pub data EndsCall {I : Type 0} (holds : List ℕ → Option (List ℕ) → Type 
 abbrev pub AnyFile : List ℕ → Option (List ℕ) → Type 0
 AnyFile name octets = Unit {0}
 
--- What is asked for is done, with some input and some output: nothing is known here of what standard input gives and standard output
--- holds. `call_on` says it of every reader and writer.
-pub record EndsDone {I : Type 0} (remaining : I → Option (List ℕ)) (explains : Bool → Type 0) (tells : ℕ → Bool → Type 0)
-    (works : Option ℕ → Type 0) (what : Call) (status : ℕ) : Type 0
+-- It was asked what the watch of this call is to say, and the status is that of this call over some reader of standard input and some
+-- output: nothing is known here of what standard output holds. `call_on` says it of every reader and writer.
+pub record EndsDone {I D : Type 0} (remaining : I → Option (List ℕ)) (input_of : D → Option (List ℕ)) (explains : Call → Type 0)
+    (tells : ℕ → Bool → Type 0) (reads : Filter → Type 0) (employs : ℕ → Type 0) (what : Call) (status : ℕ) : Type 0
   where
-    pub input : Option (List ℕ)
+    pub explained : explains what
+    pub reader : D
     pub left : Option (List ℕ)
     pub old : Option (List ℕ)
     pub new : Option (List ℕ)
-    pub ends : EndsCall AnyFile remaining explains tells works what input left old new status
+    pub ends : EndsCall AnyFile remaining tells reads employs what (input_of reader) left old new status
 
 -- The same; or the status is 3, as it is if there is no memory for reading: the clause doesn't say when.
-abbrev pub EndsCalled : {I : Type 0} → (I → Option (List ℕ)) → (Bool → Type 0) → (ℕ → Bool → Type 0) → (Option ℕ → Type 0) →
-    Call → ℕ → Type 0
-EndsCalled remaining explains tells works what status = (status ≡ 3) ⊎ EndsDone remaining explains tells works what status
+abbrev pub EndsCalled : {I D : Type 0} → (I → Option (List ℕ)) → (D → Option (List ℕ)) → (Call → Type 0) → (ℕ → Bool → Type 0) →
+    (Filter → Type 0) → (ℕ → Type 0) → Call → ℕ → Type 0
+EndsCalled remaining input_of explains tells reads employs what status =
+    (status ≡ 3) ⊎ EndsDone remaining input_of explains tells reads employs what status
 
--- The status is that of the call that the given words ask for, or of why nothing is run for them.
-pub record EndsWords {I : Type 0} (remaining : I → Option (List ℕ)) (gives : Result (List (List ℕ)) NoWords → Type 0)
-    (shows : NoCall → Bool → Type 0) (explains : Bool → Type 0) (tells : ℕ → Bool → Type 0) (works : Option ℕ → Type 0) (status : ℕ)
-    : Type 0
+-- The status is that of the call that the given words ask for at the moment of the clock, or of why nothing is run for them.
+pub record EndsWords {I D : Type 0} (remaining : I → Option (List ℕ)) (input_of : D → Option (List ℕ))
+    (gives : Result (List (List ℕ)) NoWords → Type 0) (ticks : Option Stamp → Type 0) (shows : NoCall → Bool → Type 0)
+    (explains : Call → Type 0) (tells : ℕ → Bool → Type 0) (reads : Filter → Type 0) (employs : ℕ → Type 0) (status : ℕ) : Type 0
   where
     pub words : List (List ℕ)
     pub given : gives (Ok words)
     pub clock : Option Stamp
+    pub ticked : ticks clock
     pub what : Result Call NoCall
     pub asked : IfOk what (IsAskedBy words clock)
     pub unasked : IfErr what (IsNoCall words clock)
-    pub called : IfOk what (λ asked. EndsCalled remaining explains tells works asked status)
+    pub called : IfOk what (λ asked. EndsCalled remaining input_of explains tells reads employs asked status)
     pub not_run : IfErr what (λ why. IsStatusOfNoCall (shows why) why status)
 
 -- The same; or the words can't be had: the status is 2 if one is no text, and 3 if an allocation failed.
-abbrev pub EndsProgram : {I : Type 0} → (I → Option (List ℕ)) → (Result (List (List ℕ)) NoWords → Type 0) → (NoCall → Bool → Type 0) →
-    (Bool → Type 0) → (ℕ → Bool → Type 0) → (Option ℕ → Type 0) → ℕ → Type 0
-EndsProgram remaining gives shows explains tells works status =
+abbrev pub EndsProgram : {I D : Type 0} → (I → Option (List ℕ)) → (D → Option (List ℕ)) → (Result (List (List ℕ)) NoWords → Type 0) →
+    (Option Stamp → Type 0) → (NoCall → Bool → Type 0) → (Call → Type 0) → (ℕ → Bool → Type 0) → (Filter → Type 0) → (ℕ → Type 0) →
+    ℕ → Type 0
+EndsProgram remaining input_of gives ticks shows explains tells reads employs status =
     ((status ≡ 2) × gives (Err no_words.NoText)) ⊎ (((status ≡ 3) × gives (Err no_words.NoMemory)) ⊎
-    EndsWords remaining gives shows explains tells works status)
+    EndsWords remaining input_of gives ticks shows explains tells reads employs status)

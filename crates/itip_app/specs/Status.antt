@@ -32,7 +32,7 @@ abbrev pub status_filtered : {E : Type 0} → Result Outcome E → ℕ
 status_filtered (Ok outcome) = status_done outcome.undone outcome.is_refused
 status_filtered (Err fault) = 3
 
--- a draft, or the message that is to be written, can't be read as one
+-- the draft can't be read as a request, or what is to be written as a message
 abbrev pub IsUnreadable : Option Undone → MessageRefusal → Type 0
 IsUnreadable why refusal = (why ≡ Some (undone.Draft refusal)) ⊎ (why ≡ Some (undone.Unwritten (writing.Unreadable refusal)))
 

@@ -9,15 +9,16 @@ ghost use Rattle.itip_inbox.specs.OfInbox.{WritesFront};
 ghost use Rattle.itip_inbox.specs.Reports.{IsReport};
 ghost use Rattle.itip_message.specs.RefusalNumbers.{number_of};
 ghost use Rattle.itip_message.specs.declared.error.MessageRefusal.{MessageRefusal};
-ghost use Rattle.itip_app.specs.Status.{status_refused, status_done, status_filtered, IsUnreadable};
+ghost use Rattle.itip_app.specs.Status.{status_done, status_filtered, IsUnreadable};
 ghost use Rattle.itip_app.specs.Filtered.{octets_in, Writes, WritesList, WritesExplanation, WritesMessage, Filters};
 ghost use Rattle.itip_app.specs.Filtered.{WritesFrontOf, WritesListFront, WritesMessageFront, FiltersFront};
 ghost use Rattle.itip_app.specs.Ended.{EndsFilter, EndsReplacing, EndsSources, EndsFiltered, ReplacesFile};
 ghost use Rattle.itip_app.specs.declared.draft.Draft.{Draft};
 
 use crate::draft::{Draft, draft_of};
-use crate::run::{FAULT, Terminals};
-use crate::tell::{Says, Teller, complain, complain_of, complain_refused, warn};
+use crate::run::Terminals;
+use crate::status::{FAULT, NOT_DONE, refused_status};
+use crate::tell::{Causes, Says, Teller, complain, complain_of, complain_refused, warn};
 use crate::thread_count::{ThreadCount, Works};
 use itip_inbox::{
     CsvList, Explained, JsonList, ListForm, PageList, Sent, TextList, Watch, compact, explain,
@@ -36,9 +37,6 @@ use std::alloc::AllocError;
 use std::io;
 use std::rt::Files;
 use std::thread::Threads;
-
-// The status if what was asked for can't be done.
-const NOT_DONE: u8 = 4;
 
 /// The names of what a filter reads.
 #[derive(Drop)]
@@ -87,10 +85,11 @@ enum Undone {
 pub(crate) fn filtered<R: AllocGlobal + Input + Says + Files + Works + Copy + Sync + 'static>(
     rt: &R,
     filter: &Filter,
+    causes: Causes,
     terminals: Terminals,
 ) -> u8
-    ensures { EndsFiltered ⟦<Source<'static, R, R::Reader> as io::Read>⟧.remaining (R.explains rt.now) (R.tells rt.now)
-        (R.works rt.now) filter.now result }
+    ensures { EndsFiltered ⟦<Source<'static, R, R::Reader> as io::Read>⟧.remaining (R.tells rt.now) (R.reads rt.now) filter.now
+        result }
 {
     let named = match names_of(rt, filter) {
         Ok(named) => named,
@@ -101,7 +100,6 @@ pub(crate) fn filtered<R: AllocGlobal + Input + Says + Files + Works + Copy + Sy
         Err(StreamFault::Read) => return complain_unread(rt, named.draft.first()),
         Err(fault) => return complain(rt, &fault, FAULT),
     };
-    let causes = rt.causes(filter.intake.why);
     let mut teller = Teller::new(rt, &named, filter, causes, terminals.errors);
     filter_sources(rt, &named, filter, &draft, terminals.output, &mut teller)
 }
@@ -177,7 +175,7 @@ fn filter_sources<R: AllocGlobal + Input + Says + Files + Works + Copy + Sync + 
     is_terminal: bool,
     teller: &mut Teller<'_, R>,
 ) -> u8
-    ensures { EndsSources ⟦<Source<'static, R, R::Reader> as io::Read>⟧.remaining (R.tells rt.now) (R.works rt.now) filter.now
+    ensures { EndsSources ⟦<Source<'static, R, R::Reader> as io::Read>⟧.remaining (R.tells rt.now) (R.reads rt.now) filter.now
         draft.now result }
 {
     if let Some(name) = replaced_file(&filter.written) {
@@ -216,7 +214,7 @@ fn filter_to<R: AllocGlobal + Input + Says + Files + Works + Sync + 'static, W: 
     teller: &mut Teller<'_, R>,
 ) -> u8
     requires { ¬ ReplacesFile filter.now.written }
-    ensures { EndsSources ⟦<Source<'static, R, R::Reader> as io::Read>⟧.remaining (R.tells rt.now) (R.works rt.now) filter.now
+    ensures { EndsSources ⟦<Source<'static, R, R::Reader> as io::Read>⟧.remaining (R.tells rt.now) (R.reads rt.now) filter.now
         draft.now result }
 {
     let names = named.heard.as_slice();
@@ -229,7 +227,8 @@ fn filter_to<R: AllocGlobal + Input + Says + Files + Works + Sync + 'static, W: 
     filter_status(rt, than, sources, names, filter, draft, writer, teller)
 }
 
-/// Writes what is asked for of sources, as [`write_filtered`] does, says what came of it and returns the exit status.
+/// Writes what is asked for of sources, as [`write_filtered`] does, on as many threads as the filter asks for, says what came of it and
+/// returns the exit status.
 fn filter_status<R: AllocGlobal + Says + Works + Sync, I: io::Read + Drop, W: io::Write>(
     rt: &R,
     than: Vec<I>,
@@ -240,10 +239,10 @@ fn filter_status<R: AllocGlobal + Says + Works + Sync, I: io::Read + Drop, W: io
     writer: &mut W,
     teller: &mut Teller<'_, R>,
 ) -> u8
-    ensures { EndsFilter I.remaining (R.tells rt.now) (R.works rt.now) filter.now draft.now names.now than.items sources.items
+    ensures { EndsFilter I.remaining (R.tells rt.now) (R.reads rt.now) filter.now draft.now names.now than.items sources.items
         (W.contents writer.old) (W.contents writer.new) result }
 {
-    let threads = rt.thread_count(filter.intake.threads);
+    let threads = rt.thread_count(filter);
     let done = write_filtered(
         rt,
         than,
@@ -259,7 +258,7 @@ fn filter_status<R: AllocGlobal + Says + Works + Sync, I: io::Read + Drop, W: io
     status_of(rt, filter, done, teller.last_opened())
 }
 
-/// Replaces a file with what is kept of the named sources, and returns the exit status.
+/// Replaces the file `name` with what is kept of the named sources, and returns the exit status.
 fn replace<R: AllocGlobal + Input + Says + Files + Works + Copy + Sync + 'static>(
     rt: &R,
     named: &Named,
@@ -269,7 +268,7 @@ fn replace<R: AllocGlobal + Input + Says + Files + Works + Copy + Sync + 'static
 ) -> u8
     requires { ReplacesFile filter.now.written }
     ensures { (draft : Draft) → EndsSources ⟦<Source<'static, R, R::Reader> as io::Read>⟧.remaining (R.tells rt.now)
-        (R.works rt.now) filter.now draft result }
+        (R.reads rt.now) filter.now draft result }
 {
     let Ok(sources) = sources_of(rt, named.heard.as_slice()) else {
         return complain(rt, &"no memory", FAULT);
@@ -277,7 +276,8 @@ fn replace<R: AllocGlobal + Input + Says + Files + Works + Copy + Sync + 'static
     replace_status(rt, sources, filter, name, teller)
 }
 
-/// Replaces a file with what is kept of sources, says what came of it and returns the exit status.
+/// Replaces the file `name` with what is kept of sources, on as many threads as the filter asks for, says what came of it and returns the
+/// exit status. No clause says anything of the file.
 fn replace_status<R: AllocGlobal + Says + Files + Works + Copy + Sync, I: io::Read + Drop>(
     rt: &R,
     sources: Vec<I>,
@@ -285,10 +285,9 @@ fn replace_status<R: AllocGlobal + Says + Files + Works + Copy + Sync, I: io::Re
     name: &str,
     teller: &mut Teller<'_, R>,
 ) -> u8
-    ensures { EndsReplacing I.remaining (R.tells rt.now) (R.works rt.now) filter.now sources.items result }
+    ensures { EndsReplacing I.remaining (R.tells rt.now) (R.reads rt.now) filter.now sources.items result }
 {
-    let thread_count = rt.thread_count(filter.intake.threads);
-    let replaced = write_replacement(rt, sources, name, thread_count, teller);
+    let replaced = write_replacement(rt, sources, name, rt.thread_count(filter), teller);
     teller.show_progress();
     status_of(rt, filter, replaced, teller.last_opened())
 }
@@ -332,6 +331,7 @@ fn write_filtered<R: AllocGlobal + Threads + Sync, I: io::Read + Drop, W: io::Wr
         FiltersFront written.now draft.now names.now known inputs (W.contents writer.old) (W.contents writer.new)) }
     ensures unread { IsErrOf result StreamFault.Read → Keeps (W.contents writer.old) (W.contents writer.new) }
 {
+    let threads = threads.count();
     match written {
         Written::Compaction { .. } => write_compaction(rt, sources, writer, threads, watch),
         Written::List(asked) => write_list(rt, sources, writer, asked, threads, watch),
@@ -350,7 +350,7 @@ fn write_compaction<R: AllocGlobal + Threads + Sync, I: io::Read + Drop, W: io::
     rt: &R,
     sources: Vec<I>,
     writer: &mut W,
-    threads: ThreadCount,
+    threads: usize,
     watch: &mut S,
 ) -> Result<Outcome, StreamFault>
     ensures output { IfOk result (λ outcome. (inputs : List (List ℕ)) → AreInputs I.remaining sources.items inputs →
@@ -359,7 +359,6 @@ fn write_compaction<R: AllocGlobal + Threads + Sync, I: io::Read + Drop, W: io::
         WritesFrontOf (IsCompaction inputs) (W.contents writer.old) (W.contents writer.new)) }
     ensures unread { IsErrOf result StreamFault.Read → Keeps (W.contents writer.old) (W.contents writer.new) }
 {
-    let threads = threads.count();
     let done = compact(rt, rt.alloc(), sources, writer, threads, watch)?;
     Ok(done_with(rt, done))
 }
@@ -369,7 +368,7 @@ fn write_news<R: AllocGlobal + Threads + Sync, I: io::Read + Drop, W: io::Write,
     than: Vec<I>,
     sources: Vec<I>,
     writer: &mut W,
-    threads: ThreadCount,
+    threads: usize,
     watch: &mut S,
 ) -> Result<Outcome, StreamFault>
     ensures output { IfOk result (λ outcome. (known inputs : List (List ℕ)) →
@@ -380,7 +379,6 @@ fn write_news<R: AllocGlobal + Threads + Sync, I: io::Read + Drop, W: io::Write,
         WritesFrontOf (IsNews known inputs) (W.contents writer.old) (W.contents writer.new)) }
     ensures unread { IsErrOf result StreamFault.Read → Keeps (W.contents writer.old) (W.contents writer.new) }
 {
-    let threads = threads.count();
     let done = news(rt, rt.alloc(), than, sources, writer, threads, watch)?;
     Ok(done_with(rt, done))
 }
@@ -390,7 +388,7 @@ fn write_list<R: AllocGlobal + Threads + Sync, I: io::Read + Drop, W: io::Write,
     sources: Vec<I>,
     writer: &mut W,
     asked: &Listing,
-    threads: ThreadCount,
+    threads: usize,
     watch: &mut S,
 ) -> Result<Outcome, StreamFault>
     ensures output { IfOk result (λ outcome. (inputs : List (List ℕ)) → AreInputs I.remaining sources.items inputs →
@@ -422,7 +420,7 @@ fn write_form<
     writer: &mut W,
     asked: &Listing,
     form: &F,
-    threads: ThreadCount,
+    threads: usize,
     watch: &mut S,
 ) -> Result<Outcome, StreamFault>
     ensures output { IfOk result (λ outcome. (inputs : List (List ℕ)) → AreInputs I.remaining sources.items inputs →
@@ -431,7 +429,6 @@ fn write_form<
         WritesListFront (F.octets form.now) asked.now inputs (W.contents writer.old) (W.contents writer.new)) }
     ensures unread { IsErrOf result StreamFault.Read → Keeps (W.contents writer.old) (W.contents writer.new) }
 {
-    let threads = threads.count();
     let wanted = asked.wanted();
     let done = list(
         rt,
@@ -452,7 +449,7 @@ fn write_report<R: AllocGlobal + Threads + Sync, I: io::Read + Drop, W: io::Writ
     sources: Vec<I>,
     writer: &mut W,
     asked: &Reported,
-    threads: ThreadCount,
+    threads: usize,
     watch: &mut S,
 ) -> Result<Outcome, StreamFault>
     ensures output { IfOk result (λ outcome. (inputs : List (List ℕ)) → AreInputs I.remaining sources.items inputs →
@@ -461,7 +458,6 @@ fn write_report<R: AllocGlobal + Threads + Sync, I: io::Read + Drop, W: io::Writ
         WritesFrontOf (IsReport asked.now.name inputs asked.now.window) (W.contents writer.old) (W.contents writer.new)) }
     ensures unread { IsErrOf result StreamFault.Read → Keeps (W.contents writer.old) (W.contents writer.new) }
 {
-    let threads = threads.count();
     let done = report(
         rt,
         rt.alloc(),
@@ -481,7 +477,7 @@ fn write_explanation<R: AllocGlobal + Threads + Sync, I: io::Read + Drop, W: io:
     sources: Vec<I>,
     writer: &mut W,
     uid: &Uid,
-    threads: ThreadCount,
+    threads: usize,
     watch: &mut S,
 ) -> Result<Outcome, StreamFault>
     ensures output { IfOk result (λ outcome. (inputs : List (List ℕ)) → AreInputs I.remaining sources.items inputs →
@@ -490,7 +486,6 @@ fn write_explanation<R: AllocGlobal + Threads + Sync, I: io::Read + Drop, W: io:
         WritesFront (IsExplained uid.now names.now inputs) (W.contents writer.old) (W.contents writer.new)) }
     ensures unread { IsErrOf result StreamFault.Read → Keeps (W.contents writer.old) (W.contents writer.new) }
 {
-    let threads = threads.count();
     match explain(rt, rt.alloc(), sources, names, uid, writer, threads, watch)? {
         Explained::Told { is_refused } => Ok(done_with(rt, is_refused)),
         Explained::Unknown => Ok(nothing_done(rt, Undone::Unknown)),
@@ -505,7 +500,7 @@ fn write_message<R: AllocGlobal + Threads + Sync, I: io::Read + Drop, W: io::Wri
     writer: &mut W,
     asked: &Asked,
     at: Stamp,
-    threads: ThreadCount,
+    threads: usize,
     watch: &mut S,
 ) -> Result<Outcome, StreamFault>
     ensures output { IfOk result (λ outcome. (inputs : List (List ℕ)) → AreInputs I.remaining sources.items inputs →
@@ -519,7 +514,6 @@ fn write_message<R: AllocGlobal + Threads + Sync, I: io::Read + Drop, W: io::Wri
         return Ok(nothing_done(rt, Undone::Draft(refusal)));
     }
     let errand = asked.errand(draft.todos.as_slice());
-    let threads = threads.count();
     match send(rt, rt.alloc(), sources, &errand, at, writer, threads, watch)? {
         Sent::Done {
             is_refused,
@@ -537,10 +531,9 @@ fn write_message<R: AllocGlobal + Threads + Sync, I: io::Read + Drop, W: io::Wri
 fn hear_only<R: AllocGlobal + Threads + Sync, I: io::Read + Drop, S: Watch>(
     rt: &R,
     sources: Vec<I>,
-    threads: ThreadCount,
+    threads: usize,
     watch: &mut S,
 ) -> Result<(), StreamFault> {
-    let threads = threads.count();
     let inbox = read_sources(rt, rt.alloc(), sources, None, threads, watch)?;
     for refused in inbox.refusals.as_slice() {
         watch.refused(refused);
@@ -580,13 +573,6 @@ fn told<R: Says>(rt: &R, outcome: &Outcome, why: bool) -> u8
     }
     warn(rt, outcome.lacking.as_slice());
     refused_status(outcome.is_refused)
-}
-
-/// The exit status of what was done: 1 if something was refused, else 0.
-pub(crate) fn refused_status(is_refused: bool) -> u8
-    ensures { result ≡ status_refused is_refused }
-{
-    if is_refused { 1 } else { 0 }
 }
 
 fn complain_undone<R: Says>(rt: &R, undone: Undone, why: bool) -> u8

@@ -3,14 +3,15 @@
 //! writes what is kept of them, what others lack, their task list, a report, an explanation, or a message to send; or shows a message
 //! as its items.
 //!
-//! Its exit status is 0, or 1 if something was refused, 2 for bad words or a bad window, 3 for a fault, and 4 if what was asked for
-//! can't be done.
+//! Its exit status is 0, or 1 if something was refused, 2 for bad words, 3 for a fault, and 4 if what was asked for can't be done or the
+//! file of a desk is refused.
 #![tactic(auto)]
 
 mod draft;
 mod filters;
 mod given;
 mod run;
+mod status;
 mod stream;
 mod tell;
 mod thread_count;

@@ -11,28 +11,25 @@ ghost use Rattle.itip_words.specs.Words.{AreDesks, AreWorkers};
 ghost use Rattle.itip_app.specs.Status.{status_shown, IsStatusOfNoCall};
 ghost use Rattle.itip_app.specs.Ended.{EndsRun, EndsOffice, EndsShowing, EndsCall, EndsCalled, EndsProgram};
 
-use crate::filters::{filtered, refused_status};
+use crate::filters::filtered;
 use crate::given::{Gives, NoWords};
+use crate::status::{BAD_WORDS, FAULT, refused_status};
 use crate::stream::{DeskFiles, Folder, stream};
-use crate::tell::{Explainer, Says, complain};
-use crate::thread_count::Works;
+use crate::tell::{Causes, Explainer, Says, complain};
+use crate::thread_count::{WorkerCount, Works};
 use itip_inbox::check;
 use itip_office::{ScriptError, run_jobs};
 use itip_streams::{Source, StreamFault};
-use itip_words::{Call, NoCall, Scripted, now, read_words};
+use itip_words::{Call, NoCall, Scripted, read_words};
 use itip_world::{Shelf, run_script_watched};
 use std::alloc::Global;
 use std::fmt::Display;
 use std::io;
 use std::io::BufReader;
 use std::process::ExitCode;
-use std::rt::{Clock, Files};
+use std::rt::Files;
 use std::sync::Wait;
 use std::thread::Threads;
-
-const BAD_WORDS: u8 = 2;
-
-pub(crate) const FAULT: u8 = 3;
 
 /// Which streams are terminals.
 #[derive(Clone, Copy)]
@@ -45,42 +42,22 @@ pub(crate) struct Terminals {
 
 /// Runs the program and returns how it ends.
 pub(crate) fn exit_code<
-    R: AllocGlobal
-        + Gives
-        + Input
-        + Says
-        + Files
-        + Clock
-        + Works
-        + Wait
-        + Copy
-        + Send
-        + Sync
-        + 'static,
+    R: AllocGlobal + Gives + Input + Says + Files + Works + Wait + Copy + Send + Sync + 'static,
 >(rt: &R, terminals: Terminals) -> ExitCode
-    ensures { EndsProgram ⟦<Source<'static, R, R::Reader> as io::Read>⟧.remaining (R.gives rt.now) (R.shows rt.now)
-        (R.explains rt.now) (R.tells rt.now) (R.works rt.now) (exit_status result) }
+    ensures { EndsProgram ⟦<Source<'static, R, R::Reader> as io::Read>⟧.remaining ⟦<R::Reader as io::Read>⟧.remaining
+        (R.gives rt.now) (R.ticks rt.now) (R.shows rt.now) (R.explains rt.now) (R.tells rt.now) (R.reads rt.now) (R.employs rt.now)
+        (exit_status result) }
 {
     ExitCode::from(status(rt, terminals))
 }
 
 /// Runs the program and returns its exit status.
 fn status<
-    R: AllocGlobal
-        + Gives
-        + Input
-        + Says
-        + Files
-        + Clock
-        + Works
-        + Wait
-        + Copy
-        + Send
-        + Sync
-        + 'static,
+    R: AllocGlobal + Gives + Input + Says + Files + Works + Wait + Copy + Send + Sync + 'static,
 >(rt: &R, terminals: Terminals) -> u8
-    ensures { EndsProgram ⟦<Source<'static, R, R::Reader> as io::Read>⟧.remaining (R.gives rt.now) (R.shows rt.now)
-        (R.explains rt.now) (R.tells rt.now) (R.works rt.now) result }
+    ensures { EndsProgram ⟦<Source<'static, R, R::Reader> as io::Read>⟧.remaining ⟦<R::Reader as io::Read>⟧.remaining
+        (R.gives rt.now) (R.ticks rt.now) (R.shows rt.now) (R.explains rt.now) (R.tells rt.now) (R.reads rt.now) (R.employs rt.now)
+        result }
 {
     let words = match rt.words() {
         Ok(words) => words,
@@ -89,7 +66,7 @@ fn status<
     };
     done(
         rt,
-        read_words(rt.alloc(), words.as_slice(), now(rt)),
+        read_words(rt.alloc(), words.as_slice(), rt.moment()),
         terminals,
     )
 }
@@ -102,8 +79,8 @@ fn done<R: AllocGlobal + Input + Says + Files + Works + Wait + Copy + Send + Syn
 ) -> u8
     requires run { IfOk call (IfRun (λ scripted. AreDesks scripted.desks)) }
     requires office { IfOk call (IfOffice AreOffice) }
-    ensures called { IfOk call (λ asked. EndsCalled ⟦<Source<'static, R, R::Reader> as io::Read>⟧.remaining (R.explains rt.now)
-        (R.tells rt.now) (R.works rt.now) asked result) }
+    ensures called { IfOk call (λ asked. EndsCalled ⟦<Source<'static, R, R::Reader> as io::Read>⟧.remaining
+        ⟦<R::Reader as io::Read>⟧.remaining (R.explains rt.now) (R.tells rt.now) (R.reads rt.now) (R.employs rt.now) asked result) }
     ensures not_run { IfErr call (λ why. IsStatusOfNoCall (R.shows rt.now why) why result) }
 {
     match call {
@@ -120,8 +97,8 @@ fn called<R: AllocGlobal + Input + Says + Files + Works + Wait + Copy + Send + S
 ) -> u8
     requires run { IfRun (λ scripted. AreDesks scripted.desks) call }
     requires office { IfOffice AreOffice call }
-    ensures { EndsCalled ⟦<Source<'static, R, R::Reader> as io::Read>⟧.remaining (R.explains rt.now) (R.tells rt.now)
-        (R.works rt.now) call result }
+    ensures { EndsCalled ⟦<Source<'static, R, R::Reader> as io::Read>⟧.remaining ⟦<R::Reader as io::Read>⟧.remaining
+        (R.explains rt.now) (R.tells rt.now) (R.reads rt.now) (R.employs rt.now) call result }
 {
     let Ok(mut reader) = BufReader::new(rt.alloc(), rt.reader()) else {
         return complain(rt, &"no memory", FAULT);
@@ -131,8 +108,8 @@ fn called<R: AllocGlobal + Input + Says + Files + Works + Wait + Copy + Send + S
     call_on(rt, &mut files, &mut reader, &mut writer, call, terminals)
 }
 
-/// Does what is asked for, from a folder and a reader and to a writer, and returns the exit status. A filter has its own sources and
-/// output.
+/// Does what is asked for, from a folder and a reader and to a writer, and returns the exit status. First it asks what the watch of this
+/// call is to say. A filter has its own sources and output.
 fn call_on<
     R: AllocGlobal + Input + Says + Files + Works + Wait + Copy + Send + Sync + 'static,
     F: Folder + Shelf,
@@ -141,16 +118,20 @@ fn call_on<
 >(rt: &R, folder: &mut F, reader: &mut I, writer: &mut W, call: Call, terminals: Terminals) -> u8
     requires run { IfRun (λ scripted. AreDesks scripted.desks) call }
     requires office { IfOffice AreOffice call }
-    ensures { EndsCall (F.holds folder.old) ⟦<Source<'static, R, R::Reader> as io::Read>⟧.remaining (R.explains rt.now)
-        (R.tells rt.now) (R.works rt.now) call (I.remaining reader.old) (I.remaining reader.new)
+    ensures explained { R.explains rt.now call }
+    ensures ends { EndsCall (F.holds folder.old) ⟦<Source<'static, R, R::Reader> as io::Read>⟧.remaining (R.tells rt.now)
+        (R.reads rt.now) (R.employs rt.now) call (I.remaining reader.old) (I.remaining reader.new)
         (W.contents writer.old) (W.contents writer.new) result }
 {
+    let causes = rt.causes(&call);
     match call {
-        Call::Run(scripted) => run(rt, reader, writer, scripted),
-        Call::Stream(streamed) => stream(rt, folder, reader, writer, &streamed),
-        Call::Office { scripted, workers } => office(rt, reader, writer, scripted, workers),
-        Call::Check { why } => show(rt, reader, writer, why),
-        Call::Filter(filter) => filtered(rt, &filter, terminals),
+        Call::Run(scripted) => run(rt, reader, writer, scripted, causes),
+        Call::Stream(streamed) => stream(rt, folder, reader, writer, &streamed, causes),
+        Call::Office { scripted, workers } => {
+            office(rt, reader, writer, scripted, workers, causes)
+        }
+        Call::Check { .. } => show(rt, reader, writer, causes),
+        Call::Filter(filter) => filtered(rt, &filter, causes, terminals),
     }
 }
 
@@ -178,11 +159,12 @@ fn run<R: AllocGlobal + Says, I: io::Read, W: io::Write>(
     reader: &mut I,
     writer: &mut W,
     asked: Scripted,
+    causes: Causes,
 ) -> u8
     requires { AreDesks asked.desks }
-    ensures { EndsRun (R.explains rt.now) asked (I.remaining reader.old) (W.contents writer.old) (W.contents writer.new) result }
+    ensures { EndsRun asked (I.remaining reader.old) (W.contents writer.old) (W.contents writer.new) result }
 {
-    let mut watch = Explainer::new(rt, rt.causes(asked.why));
+    let mut watch = Explainer::new(rt, causes);
     ended(rt, run_on(rt.alloc(), reader, writer, asked, &mut watch))
 }
 
@@ -208,15 +190,16 @@ fn run_on<I: io::Read, W: io::Write, S: itip_world::Watch>(
 
 /// Does the jobs of a script from a reader, says what failed, and returns the exit status.
 fn office<
-    R: AllocGlobal + Says + Threads + Wait + Copy + Send + Sync + 'static,
+    R: AllocGlobal + Says + Works + Wait + Copy + Send + Sync + 'static,
     I: io::Read,
     W: io::Write,
->(rt: &R, reader: &mut I, writer: &mut W, asked: Scripted, workers: u64) -> u8
+>(rt: &R, reader: &mut I, writer: &mut W, asked: Scripted, workers: u64, causes: Causes) -> u8
     requires desks { AreDesks asked.desks }
     requires workers { AreWorkers workers }
-    ensures { EndsOffice (R.explains rt.now) asked (I.remaining reader.old) (W.contents writer.old) (W.contents writer.new) result }
+    ensures { EndsOffice (R.employs rt.now) asked workers (I.remaining reader.old) (W.contents writer.old) (W.contents writer.new)
+        result }
 {
-    let causes = rt.causes(asked.why);
+    let workers = rt.worker_count(workers);
     let mut watch = Explainer::new(rt, causes);
     ended(
         rt,
@@ -237,11 +220,11 @@ fn office_on<
     reader: &mut I,
     writer: &mut W,
     asked: Scripted,
-    workers: u64,
+    workers: WorkerCount,
     watch: &mut S,
 ) -> Result<bool, ScriptError>
     requires desks { AreDesks asked.desks }
-    requires workers { AreWorkers workers }
+    requires workers { AreWorkers workers.count }
     ensures output { IfOk result (λ refusal. IfSome (I.remaining reader.old) (λ script.
         WritesOutput (IsScriptOutput asked.window asked.desks script) (W.contents writer.old) (W.contents writer.new) refusal)) }
     ensures front { OnErr result (IfSome (I.remaining reader.old) (λ script.
@@ -251,7 +234,7 @@ fn office_on<
         Keeps (W.contents writer.old) (W.contents writer.new) }
 {
     let desks = asked.desks as usize;
-    let workers = workers as usize;
+    let workers = workers.count();
     run_jobs(rt, reader, writer, desks, workers, asked.window, watch)
 }
 
@@ -260,11 +243,11 @@ fn show<R: AllocGlobal + Says, I: io::Read, W: io::Write>(
     rt: &R,
     reader: &mut I,
     writer: &mut W,
-    why: bool,
+    causes: Causes,
 ) -> u8
-    ensures { EndsShowing (R.explains rt.now) why (I.remaining reader.old) (W.contents writer.old) (W.contents writer.new) result }
+    ensures { EndsShowing (I.remaining reader.old) (W.contents writer.old) (W.contents writer.new) result }
 {
-    let mut watch = Explainer::new(rt, rt.causes(why));
+    let mut watch = Explainer::new(rt, causes);
     ended(rt, check(rt.alloc(), reader, writer, &mut watch))
 }
 

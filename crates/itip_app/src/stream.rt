@@ -1,5 +1,5 @@
 //! A stream of commands: the files that its desks begin with, and those that they are saved in.
-ghost use Rattle.std.specs.Prelude.{◌≡◌, ◌≢◌, ℕ, List, [], length, Option, Some, None, IfOk, IfErr, IfSome, IfNone, IsErrOf};
+ghost use Rattle.std.specs.Prelude.{◌≡◌, ◌≢◌, ℕ, List, length, Option, Some, None, IfOk, IfErr, IfSome, IfNone, IsErrOf};
 ghost use Rattle.std.specs.List.{Contains};
 ghost use Rattle.itip_desk.specs.DeskFile.{TellsDesk, RefusesFile};
 ghost use Rattle.itip_desk.specs.Refusals.{number_of_file};
@@ -9,9 +9,8 @@ ghost use Rattle.itip_app.specs.Status.{status_unloaded, status_served, IfRefuse
 ghost use Rattle.itip_app.specs.Streamed.{Begins, AreBegun, IsUnbegun, BeginsUpTo, ServesStream, IsUnserved};
 ghost use Rattle.itip_app.specs.Ended.{EndsServing};
 
-use crate::filters::refused_status;
-use crate::run::FAULT;
-use crate::tell::{Explainer, Says, complain, complain_of, complain_of_file};
+use crate::status::{FAULT, NOT_DONE, refused_status};
+use crate::tell::{Causes, Explainer, Says, complain, complain_of, complain_of_file};
 use itip_desk::{Desk, FileError, FileRefusal, read_desk, write_desk};
 use itip_streams::{Replacement, StreamFault, read_within, visible_text};
 use itip_words::{Load, Streamed};
@@ -19,9 +18,6 @@ use itip_world::{Shelf, run_stream};
 use std::alloc::Global;
 use std::rt::Files;
 use std::{fs, io};
-
-// The status if the file of a desk is refused.
-const NOT_READ: u8 = 4;
 
 /// Files by their names. What they hold is a relation that a function over any folder knows nothing about, so only a function that has
 /// read a file can ensure what it holds.
@@ -94,14 +90,14 @@ pub(crate) fn stream<R: AllocGlobal + Says, F: Folder + Shelf, I: io::Read, W: i
     reader: &mut I,
     writer: &mut W,
     asked: &Streamed,
+    causes: Causes,
 ) -> u8
-    ensures { EndsServing (F.holds folder.old) (R.explains rt.now) (R.tells rt.now) asked.now
+    ensures { EndsServing (F.holds folder.old) (R.tells rt.now) asked.now
         (I.remaining reader.old) (I.remaining reader.new) (W.contents writer.old) (W.contents writer.new) result }
 {
-    let why = asked.scripted.why;
-    let mut watch = Explainer::new(rt, rt.causes(why));
+    let mut watch = Explainer::new(rt, causes);
     let done = stream_on(rt.alloc(), folder, reader, writer, asked, &mut watch);
-    served(rt, done, why)
+    served(rt, done, asked.scripted.why)
 }
 
 /// Serves a stream from a reader, over desks that begin as is asked for and in the window that is asked for. Returns whether any answer
@@ -240,6 +236,6 @@ fn unloaded_status(fault: LoadFault) -> u8
 {
     match fault {
         LoadFault::Read | LoadFault::NoMemory => FAULT,
-        LoadFault::Refused(_) => NOT_READ,
+        LoadFault::Refused(_) => NOT_DONE,
     }
 }

@@ -5,7 +5,8 @@ ghost use Rattle.std.specs.String.{string_bytes};
 ghost use Rattle.itip_desk.specs.Refusals.{number_of_file};
 ghost use Rattle.itip_message.specs.RefusalNumbers.{number_of};
 ghost use Rattle.itip_words.specs.declared.no_call.NoCall.{NoCall};
-ghost use Rattle.itip_app.specs.Said.{IsRefusedLine};
+ghost use Rattle.itip_words.specs.declared.words.Call.{Call};
+ghost use Rattle.itip_app.specs.Said.{IsRefusedLine, asks_causes};
 
 use crate::filters::Named;
 use itip_desk::{FileRefusal, Refusal};
@@ -14,20 +15,20 @@ use itip_message::MessageRefusal;
 use itip_streams::{SourceName, refused_line};
 use itip_todo::PropertyName;
 use itip_view::MostRows;
-use itip_words::{Filter, NoCall, most_line};
+use itip_words::{Call, Filter, NoCall, most_line};
 use itip_world::Refused;
 use std::alloc::{AllocError, Global};
 use std::fmt::Display;
 use std::io;
 
-/// What the program says besides its output. Generic code knows nothing of these relations, so a function that ensures one must have made the call
-/// that tells it.
+/// What the program says besides its output. Generic code knows nothing of these relations, so a function that ensures one must have asked
+/// by the method that gives it, about that very value. What it does with the answer is open.
 pub(crate) trait Says: Print + Eprint {
     /// Why nothing is run was said, or could not be.
     ghost shows: { Self → NoCall → Bool → Type 0 };
 
-    /// It was asked what a watch is to say: causes if this flag is set, and none if it isn't.
-    ghost explains: { Self → Bool → Type 0 };
+    /// It was asked what the watch of this call is to say.
+    ghost explains: { Self → Call → Type 0 };
 
     /// A refusal with this number was said: with its cause if this flag is set, and by its number alone if it isn't.
     ghost tells: { Self → ℕ → Bool → Type 0 };
@@ -37,10 +38,10 @@ pub(crate) trait Says: Print + Eprint {
         ensures shown { OnOk result (shows self.now why.now true) }
         ensures unshown { OnErr result (shows self.now why.now false) };
 
-    /// Whether a watch is to say causes.
-    fn causes(&self, are_asked: bool) -> Causes
-        ensures known { explains self.now are_asked }
-        ensures flag { result.are_asked ≡ are_asked };
+    /// Whether the watch of a call is to say causes.
+    fn causes(&self, call: &Call) -> Causes
+        ensures known { explains self.now call.now }
+        ensures flag { result.are_asked ≡ asks_causes call.now };
 
     /// Says with which number something is refused, and with `why` for what. It has a name, or is a draft or a message to be written.
     fn tell<T: Display>(&self, name: Option<&str>, number: u32, refusal: &T, why: bool)
@@ -63,8 +64,10 @@ impl<R: Print + Eprint> Says for R {
         }
     }
 
-    fn causes(&self, are_asked: bool) -> Causes {
-        Causes { are_asked }
+    fn causes(&self, call: &Call) -> Causes {
+        Causes {
+            are_asked: asks_causes(call),
+        }
     }
 
     fn tell<T: Display>(&self, name: Option<&str>, number: u32, refusal: &T, why: bool) {
@@ -74,6 +77,19 @@ impl<R: Print + Eprint> Says for R {
             (None, true) => eprintln!(self; "itipdesk: refused {number}: {refusal}"),
             (None, false) => eprintln!(self; "itipdesk: refused {number}"),
         };
+    }
+}
+
+/// Whether a call asks where and why something was refused.
+fn asks_causes(call: &Call) -> bool
+    ensures { result ≡ asks_causes call.now }
+{
+    match call {
+        Call::Run(scripted) => scripted.why,
+        Call::Stream(streamed) => streamed.scripted.why,
+        Call::Office { scripted, .. } => scripted.why,
+        Call::Check { why } => *why,
+        Call::Filter(filter) => filter.intake.why,
     }
 }
 

@@ -15,7 +15,7 @@ use Rattle.itip_todo.specs.PartsOf.{parts_of}
 use Rattle.itip_todo.specs.Written.{Content, content_octets, contents_octets, parts_contents}
 use Rattle.itip_items.specs.Items.{bare, method_of, method_text}
 use Rattle.itip_message.specs.Message.{ReadsMessage, RefusesMessage}
-use Rattle.itip_items.specs.Needs.{is_property}
+use Rattle.itip_items.specs.MethodNeeds.{is_property}
 use Rattle.itip_items.specs.declared.item.Item.{Item}
 use Rattle.itip_items.specs.declared.kind.Kind.{Kind}
 use Rattle.itip_message.specs.declared.error.MessageRefusal.{MessageRefusal}

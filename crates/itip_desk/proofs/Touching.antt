@@ -9,7 +9,7 @@ use Rattle.std.proofs.lemmas.List.Elements.{Contains-append_cases, Contains-appe
 use Rattle.std.proofs.lemmas.List.Elements.{Contains-push_cases}
 use Rattle.std.proofs.Math.ListN.{get_or-map}
 use Rattle.itip_items.specs.KeyParts.{uid_of}
-use Rattle.itip_items.specs.Later.{revision_cmp}
+use Rattle.itip_items.specs.RevisionOrder.{revision_cmp}
 use Rattle.itip_items.specs.Revisions.{revisions_total}
 use Rattle.itip_items.proofs.Revisions.{revision_exact}
 use Rattle.itip_items.specs.declared.item.Item.{Item}

@@ -16,7 +16,7 @@ use Rattle.itip_todo.specs.Properties.{Property}
 use Rattle.itip_moment.specs.Order.{moment_cmp}
 use Rattle.itip_moment.specs.OrderLaws.{moment_total}
 use Rattle.itip_items.specs.KeyParts.{uid_of, rank_of, instance_of}
-use Rattle.itip_items.specs.Later.{revision_cmp}
+use Rattle.itip_items.specs.RevisionOrder.{revision_cmp}
 use Rattle.itip_items.specs.Revisions.{revisions_total}
 use Rattle.itip_items.specs.declared.item.Item.{Item}
 use Rattle.itip_items.proofs.Revisions.{revision_exact}

@@ -39,7 +39,8 @@ pub fn read_batch(alloc: Global, text: &[u8]) -> Result<Batch, ReadError>
 /// Reads the messages of a delta as the batch of all their items.
 ///
 /// The bytes are cut after each line that is END:VCALENDAR, unfolded and without regard to case, and each piece is read as a message,
-/// with limits and line numbers of its own. Empty lines after the last are not a piece. A delta as a whole has no limit.
+/// with limits and line numbers of its own. Empty lines after the last are not a piece. A delta as a whole has no limit here; a stream
+/// refuses one of more than 67,108,864 bytes.
 ///
 /// Fails with the refusal of the first piece that is refused, and with [`ReadError::NoMemory`] only if an allocation fails.
 pub fn read_delta(alloc: Global, octets: &[u8]) -> Result<Batch, ReadError>

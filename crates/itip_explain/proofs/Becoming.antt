@@ -8,7 +8,7 @@ use Rattle.std.specs.Ordering.{is_gt}
 use Rattle.std.specs.declared.cmp.Ordering.TheVariants.{Less, Equal, Greater}
 use Rattle.itip_moment.specs.declared.moment.Moment.{Moment}
 use Rattle.itip_items.specs.KeyParts.{uid_of}
-use Rattle.itip_items.specs.Later.{revision_cmp}
+use Rattle.itip_items.specs.RevisionOrder.{revision_cmp}
 use Rattle.itip_items.specs.declared.item.Item.{Item}
 use Rattle.itip_items.specs.declared.key.Key.{Key}
 use Rattle.itip_items.specs.declared.key.Key.TheVariants.{Series, Instance, Range, Answer, Refresh}
@@ -20,7 +20,7 @@ use Rattle.itip_state.proofs.Keeping.{kept_again, series_kept}
 use Rattle.itip_state.proofs.Members.{by_bool}
 use Rattle.itip_state.proofs.Tests.{dead_below, below_dead}
 use Rattle.itip_view.specs.InQuestion.{IsInQuestion, NoneInQuestion}
-use Rattle.itip_view.specs.OfUid.{StandsBesideOf}
+use Rattle.itip_view.specs.RowsOfUid.{StandsBesideOf}
 use Rattle.itip_view.specs.RowDays.{has_rows, is_of_rows}
 use Rattle.itip_view.specs.Standing.{is_live, IsLive, StandsBeside, StandsUnder, StandsFrom, IsLiveSeries, Governs}
 use Rattle.itip_view.proofs.Alike.{KeepAlike, alike_back, series_alike, governs_alike, under_kept}

@@ -6,7 +6,7 @@ use Rattle.std.specs.List.Sorted.{IsPermutation, IsSortedBy, IsStableBy}
 use Rattle.std.specs.Ordering.{is_lt, ordering_then}
 use Rattle.std.specs.declared.cmp.Ordering.{Ordering}
 use denote.Ref.{Bor}
-use Rattle.itip_items.specs.Later.{revision_cmp, IsLater}
+use Rattle.itip_items.specs.RevisionOrder.{revision_cmp, IsLater}
 use Rattle.itip_items.specs.declared.item.Item.{Item}
 use Rattle.itip_report.specs.Lines.{place_cmp}
 use Rattle.itip_explain.specs.declared.latest.Latest.{Latest}

@@ -13,7 +13,7 @@ use Rattle.itip_todo.specs.Limits.{Limits, present}
 use Rattle.itip_todo.specs.Participation.{same_text}
 use Rattle.itip_todo.specs.Reading.{ReadsTodoWithin}
 use Rattle.itip_todo.specs.declared.todo.Todo.{Todo}
-use Rattle.itip_items.specs.Needs.{is_begin, is_end}
+use Rattle.itip_items.specs.MethodNeeds.{is_begin, is_end}
 use Rattle.itip_items.specs.declared.item.Item.{Item}
 use Rattle.itip_items.specs.declared.kind.Method.{Method}
 use Rattle.itip_message.specs.Frame.{frame, place, with_front, nested, opening, property, component_name, depth_limit, calendar_lines}

@@ -22,6 +22,9 @@ use std::thread::Threads;
 // How many bytes are read for each thread before messages are heard.
 const SHARE: usize = 1_048_576;
 
+// The most bytes of a source that waits for others. A source that waits is read on one thread, so these are few beside a share.
+const WAITING: usize = 262_144;
+
 // The most bytes of one read.
 const ROOM: usize = 65_536;
 
@@ -55,7 +58,7 @@ impl Progress {
 
 /// Reads sources one after another, each to its end, and hears their messages. These are cut, read and heard on at most `threads`
 /// threads, a share of a source at a time: about a mebibyte for each thread, or two on one thread if a message is as long as one may
-/// be. A share may also be of several sources of at most a mebibyte each. Of a message that is too long, at most 20 bytes are held
+/// be. A share may also be of several sources of at most 262,144 bytes each. Of a message that is too long, at most 20 bytes are held
 /// between shares. If `about` names a UID, the items that the messages tell of it are followed.
 ///
 /// Each source is cut into messages by itself, as a delta is. A refused message is noted and not heard. A source is dropped at its
@@ -205,11 +208,11 @@ fn hear_last(
 }
 
 /// Whether what is held may wait, if nothing follows it and `messages` messages of the source were heard: it is the whole source,
-/// and at most a mebibyte.
+/// and at most 262,144 bytes.
 fn may_wait(held: &Held, messages: u64) -> bool
     ensures { IsTrue result → (held.now.is_long ≡ false) × (messages ≡ 0) }
 {
-    !held.is_long && messages == 0 && held.octets.len() <= SHARE
+    !held.is_long && messages == 0 && held.octets.len() <= WAITING
 }
 
 /// Lets a source of these bytes wait, and hears all that wait once they are a share for each thread.

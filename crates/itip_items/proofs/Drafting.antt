@@ -9,7 +9,7 @@ use Rattle.itip_moment.specs.declared.moment.Moment.{Moment}
 use Rattle.itip_todo.specs.Parts.{Parts}
 use Rattle.itip_todo.specs.Properties.{Property}
 use Rattle.itip_todo.specs.declared.status.Status.{Status}
-use Rattle.itip_items.specs.Needs.{Suits, method_cause, has_some, removes, when}
+use Rattle.itip_items.specs.MethodNeeds.{Suits, method_cause, has_some, removes, when}
 use Rattle.itip_items.specs.Items.{drafts, drafts_of, task_draft, add_drafts, series_draft, instance_draft, instance_key, attendee_draft}
 use Rattle.itip_items.specs.Items.{with_base, only_of, canonical_base, raised, effective_sequence, is_series, is_task, kind_of, method_of}
 use Rattle.itip_items.specs.Items.{Sends, IsCanonical}

@@ -3,7 +3,7 @@ use Rattle.std.specs.Ordering.{nat_cmp}
 use Rattle.std.proofs.lemmas.Map.Lookups.{CmpEqualImpliesEq, exact_bytes}
 use Rattle.itip_moment.specs.Order.{stamp_cmp}
 use Rattle.itip_moment.proofs.Same.{then_equal}
-use Rattle.itip_items.specs.Later.{revision_cmp}
+use Rattle.itip_items.specs.RevisionOrder.{revision_cmp}
 use Rattle.itip_items.proofs.SameItem.{same_item}
 
 pub revision_exact : CmpEqualImpliesEq revision_cmp

@@ -13,7 +13,7 @@ use Rattle.itip_todo.specs.Written.{Content, contents_octets, parts_contents, fr
 use Rattle.itip_todo.specs.PartsOf.{parts_of}
 use Rattle.itip_todo.specs.Properties.{Property}
 use Rattle.itip_todo.specs.declared.todo.Todo.{Todo}
-use Rattle.itip_items.specs.Needs.{Suits, removes}
+use Rattle.itip_items.specs.MethodNeeds.{Suits, removes}
 use Rattle.itip_items.specs.declared.key.Key.{Key}
 use Rattle.itip_items.specs.declared.key.Key.TheVariants as key
 use Rattle.itip_items.specs.declared.kind.Kind.{Kind}

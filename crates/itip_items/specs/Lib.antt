@@ -1,7 +1,7 @@
 pub mod KeyParts
-pub mod Needs
+pub mod MethodNeeds
 pub mod Items
 pub mod Given
-pub mod Later
+pub mod RevisionOrder
 pub mod OctetOrder
 pub mod Revisions

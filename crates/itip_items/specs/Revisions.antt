@@ -2,7 +2,7 @@
 use Rattle.std.specs.Cmp.{IsTotalOrder}
 use Rattle.std.proofs.lemmas.Cmp.{nat_cmp_total, nat_list_cmp_total, on_total, then_total}
 use Rattle.itip_moment.specs.OrderLaws.{stamp_total}
-use Rattle.itip_items.specs.Later.{revision_cmp}
+use Rattle.itip_items.specs.RevisionOrder.{revision_cmp}
 use Rattle.itip_items.specs.declared.item.Item.{Item}
 
 pub revisions_total : IsTotalOrder revision_cmp

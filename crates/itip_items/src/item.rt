@@ -7,7 +7,6 @@ use crate::octets::Octets;
 use itip_lines::NoMemory;
 use itip_moment::Stamp;
 use itip_todo::Todo;
-use std::cmp::Ordering;
 
 /// What one to-do of a message says to a desk.
 ///
@@ -29,21 +28,6 @@ pub struct Item {
     pub todo: Todo,
     pub kind: Kind,
     pub ghost canonical: { ∥ IsItem key own eff stamp bytes todo kind ∥₁ },
-}
-
-impl Item {
-    ghost use Rattle.std.specs.Prelude.{◌≡◌};
-    ghost use Rattle.itip_items.specs.Later.{revision_cmp};
-
-    /// The order of revisions: effective sequence, DTSTAMP, canonical octets (RFC 5546 2.1.5; the first and the last are our own rule).
-    pub fn cmp_rev(&self, other: &Item) -> Ordering
-        ensures { result ≡ revision_cmp self.now other.now }
-    {
-        self.eff
-            .cmp(&other.eff)
-            .then_with(|| self.stamp.cmp(&other.stamp))
-            .then_with(|| self.bytes.cmp(&other.bytes))
-    }
 }
 
 impl Clone for Item {

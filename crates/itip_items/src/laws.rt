@@ -2,7 +2,7 @@
 ghost use Rattle.std.specs.Prelude.{◌≡◌};
 ghost use Rattle.std.specs.Cmp.{IsTotalOrder};
 ghost use Rattle.std.proofs.lemmas.Map.Lookups.{CmpEqualImpliesEq};
-ghost use Rattle.itip_items.specs.Later.{revision_cmp};
+ghost use Rattle.itip_items.specs.RevisionOrder.{revision_cmp};
 ghost use Rattle.itip_items.specs.declared.item.Item.{Item};
 
 /// Items with equal canonical octets are equal.

@@ -2,7 +2,7 @@
 //! its canonical octets.
 #![tactic(auto)]
 
-mod attendee;
+mod attendee_item;
 mod canonical;
 mod error;
 mod item;
@@ -10,9 +10,10 @@ mod key;
 mod kind;
 mod laws;
 mod make;
-mod needs;
+mod method_needs;
+mod octet_order;
 mod octets;
-mod ordered;
+mod revision_order;
 mod sequences;
 
 pub use canonical::write_item;
@@ -22,6 +23,6 @@ pub use key::Key;
 pub use kind::{BadMethod, Kind, Method, method_named};
 pub use laws::{equal_octets, order_of_revisions};
 pub use make::make_items;
-pub use needs::method_cause;
+pub use method_needs::method_cause;
 pub use octets::Octets;
 pub use std::alloc::AllocError as NoMemory;

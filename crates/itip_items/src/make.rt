@@ -5,7 +5,7 @@ ghost use Rattle.std.specs.Option.{option_map};
 ghost use Rattle.itip_moment.specs.declared.moment.Moment.{Moment};
 ghost use Rattle.itip_todo.specs.Lawful.{IsLawful};
 ghost use Rattle.itip_todo.specs.PartsOf.{parts_of};
-ghost use Rattle.itip_items.specs.Needs.{Suits};
+ghost use Rattle.itip_items.specs.MethodNeeds.{Suits};
 ghost use Rattle.itip_items.specs.Items.{drafts, drafts_of, kind_of, raised, task_draft, series_draft, add_drafts, instance_draft};
 ghost use Rattle.itip_items.specs.Items.{instance_key, attendee_draft, canonical_base, is_task, Sends, IsCanonical};
 ghost use Rattle.itip_items.specs.Items.{kept_with, IsFrontOf};
@@ -13,7 +13,7 @@ ghost use Rattle.itip_items.specs.Given.{GivesItems, IsOver, IfLarge, IfTooLarge
 ghost use Rattle.itip_items.specs.declared.kind.Kind.TheVariants as kinds;
 ghost use Rattle.itip_items.specs.declared.kind.Method.TheVariants as methods;
 
-use crate::attendee::{key_of, only_of, shared_front};
+use crate::attendee_item::{key_of, only_of, shared_front};
 use crate::canonical::{finish_behind, finish_item};
 use crate::error::{FormError, ItemError};
 use crate::item::Item;

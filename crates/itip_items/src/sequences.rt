@@ -7,7 +7,7 @@ ghost use Rattle.itip_todo.specs.PartsOf.{parts_of};
 ghost use Rattle.itip_items.specs.Items.{kind_of, is_task, is_series, series_sequence};
 
 use crate::kind::{Kind, Method};
-use crate::needs::removes;
+use crate::method_needs::removes;
 use itip_lines::NoMemory;
 use itip_todo::{Todo, Uid};
 use std::alloc::Global;

@@ -21,7 +21,7 @@ use Rattle.itip_todo.specs.declared.error.TodoError.TheVariants as todo_error
 use Rattle.itip_todo.specs.declared.todo.Todo.{Todo}
 use Rattle.itip_items.specs.Given.{AreItemsOf, GivesItems, FirstOver, IfTooLarge, drafts_each}
 use Rattle.itip_items.specs.Items.{ItemDraft, drafts}
-use Rattle.itip_items.specs.Needs.{Suits, is_property}
+use Rattle.itip_items.specs.MethodNeeds.{Suits, is_property}
 use Rattle.itip_items.specs.declared.error.FormError.{FormError}
 use Rattle.itip_items.specs.declared.error.FormError.TheVariants as form_error
 use Rattle.itip_items.specs.declared.item.Item.{Item}

@@ -27,7 +27,7 @@ use Rattle.itip_moment.specs.declared.moment.Moment.TheVariants.{Date, Floating,
 use Rattle.itip_moment.specs.declared.stamp.Stamp.{Stamp}
 use Rattle.itip_moment.proofs.WrittenOctets.{is_stamp_octet, stamp_text_octets}
 use Rattle.itip_todo.proofs.LawfulLines.{stamp_lawful}
-use Rattle.itip_items.specs.Needs.{is_property}
+use Rattle.itip_items.specs.MethodNeeds.{is_property}
 use Rattle.itip_message.specs.Building.{Adds, AddsMoment, RefusesText, bad_line, not_one, of_component, has_lawful_zone, zone_params}
 use Rattle.itip_message.specs.Building.{moment_line_text}
 use Rattle.itip_message.specs.declared.error.MessageRefusal.{MessageRefusal}

@@ -18,7 +18,7 @@ use Rattle.itip_todo.specs.declared.property_name.PropertyName.{PropertyName}
 use Rattle.itip_todo.specs.declared.property_name.PropertyName.TheVariants as name
 use Rattle.itip_todo.specs.declared.todo.Todo.{Todo}
 use Rattle.itip_todo.proofs.ContentLines.{plain_lawful}
-use Rattle.itip_items.specs.Needs.{Suits, is_property}
+use Rattle.itip_items.specs.MethodNeeds.{Suits, is_property}
 use Rattle.itip_items.specs.declared.kind.Method.TheVariants as method
 use Rattle.itip_message.specs.CauseLines.{is_named}
 use Rattle.itip_message.specs.Drafts.{IsFirstStamp, IsUndated, AreDated, HasDraftTodos, dated, is_undated}

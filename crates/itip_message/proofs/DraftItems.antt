@@ -13,7 +13,7 @@ use Rattle.itip_todo.specs.PartsOf.{parts_of}
 use Rattle.itip_todo.specs.declared.todo.Todo.{Todo}
 use Rattle.itip_items.specs.Given.{AreItemsOf, IsItemOf}
 use Rattle.itip_items.specs.Items.{canonical_base, effective_sequence, task_draft, with_base}
-use Rattle.itip_items.specs.Needs.{Suits, is_property}
+use Rattle.itip_items.specs.MethodNeeds.{Suits, is_property}
 use Rattle.itip_items.specs.declared.item.Item.{Item}
 use Rattle.itip_items.specs.declared.kind.Kind.TheVariants as kind
 use Rattle.itip_items.specs.declared.kind.Method.TheVariants as method

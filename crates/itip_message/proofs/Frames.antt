@@ -4,7 +4,7 @@ use Rattle.std.proofs.Common.{length-append, append_assoc, append-nil, subst, ge
 use Rattle.std.specs.Prelude.{nat_lt, codes, Option, Some, None, Result, Ok, Err, ◌≢◌, ◌==◌}
 use Rattle.itip_lines.specs.declared.line.NumberedLine.{NumberedLine}
 use Rattle.itip_message.specs.Frame.{place, with_front, nested, opening, property, component_name, innermost_first}
-use Rattle.itip_items.specs.Needs.{is_begin, is_end}
+use Rattle.itip_items.specs.MethodNeeds.{is_begin, is_end}
 use Rattle.itip_todo.specs.Participation.{same_text}
 use Rattle.itip_message.specs.declared.frame.Placed.{Placed}
 use Rattle.itip_message.specs.declared.frame.Placed.TheVariants.{CalendarLine, TodoBegins, TodoLine}

@@ -17,7 +17,7 @@ use Rattle.itip_message.specs.CauseLines.{line_of_cause}
 use Rattle.itip_message.specs.Frame.{frame, todos}
 use Rattle.itip_message.specs.Head.{head}
 use Rattle.itip_items.specs.Items.{ItemDraft, drafts, IsWithinLimits, canonical_octets}
-use Rattle.itip_items.specs.Needs.{method_cause}
+use Rattle.itip_items.specs.MethodNeeds.{method_cause}
 use Rattle.itip_items.specs.declared.error.MethodCause.{MethodCause}
 use Rattle.itip_message.specs.Message.{ReadsComponent, RefusesComponent, AreComponents, FirstRefused, HasHead, ReadsMessage, RefusesMessage}
 use Rattle.itip_message.specs.Message.{at_lines, at_frame, at_head, at_component, at_canonical_form}

@@ -13,11 +13,11 @@ use Rattle.itip_todo.specs.Parts.{Parts}
 use Rattle.itip_todo.specs.Written.{Content, content_of, parts_contents, property_line, moment_line, plain, optional}
 use Rattle.itip_todo.specs.declared.property_name.PropertyName.TheVariants as name
 use Rattle.itip_message.specs.Frame.{frame, place, with_front, begun, todos, todos_from, calendar_lines}
-use Rattle.itip_items.specs.Needs.{is_begin, is_end}
+use Rattle.itip_items.specs.MethodNeeds.{is_begin, is_end}
 use Rattle.itip_todo.specs.Participation.{same_text}
 use Rattle.itip_message.specs.Head.{head, head_of}
 use Rattle.itip_items.specs.Items.{bare, method_of, method_text}
-use Rattle.itip_items.specs.Needs.{is_property}
+use Rattle.itip_items.specs.MethodNeeds.{is_property}
 use Rattle.itip_message.specs.declared.sort.Component.{Component}
 use Rattle.itip_message.specs.declared.frame.Placed.{Placed}
 use Rattle.itip_message.specs.declared.frame.Placed.TheVariants.{CalendarLine, TodoBegins, TodoLine}

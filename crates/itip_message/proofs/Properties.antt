@@ -9,9 +9,9 @@ use Rattle.itip_lines.specs.declared.line.NumberedLine.{NumberedLine}
 use Rattle.itip_todo.specs.PartsOf.{parts_of}
 use Rattle.itip_todo.specs.declared.todo.Todo.{Todo}
 use Rattle.itip_message.specs.Frame.{frame, place, with_front, begun, with_line, opening, property, component_name, todos, todos_from}
-use Rattle.itip_items.specs.Needs.{is_begin, is_end}
+use Rattle.itip_items.specs.MethodNeeds.{is_begin, is_end}
 use Rattle.itip_todo.specs.Participation.{same_text}
-use Rattle.itip_items.specs.Needs.{is_property, Suits}
+use Rattle.itip_items.specs.MethodNeeds.{is_property, Suits}
 use Rattle.itip_message.specs.Message.{AreComponents, ReadsComponent}
 use Rattle.itip_message.specs.declared.sort.Component.{Component}
 use Rattle.itip_message.specs.declared.frame.Placed.{Placed}

@@ -11,7 +11,7 @@ use Rattle.itip_todo.specs.PartsOf.{parts_of}
 use Rattle.itip_todo.proofs.WritingLaws as todo_laws
 use Rattle.itip_message.specs.Frame.{todos}
 use Rattle.itip_items.specs.Items.{ItemDraft, method_of, IsWithinLimits}
-use Rattle.itip_items.specs.Needs.{method_cause, is_property}
+use Rattle.itip_items.specs.MethodNeeds.{method_cause, is_property}
 use Rattle.itip_message.specs.Message.{AreComponents, ReadsMessage}
 use Rattle.itip_items.specs.Given.{IsItemOf, AreItemsOf}
 use Rattle.itip_items.specs.declared.item.Item.{Item}

@@ -6,7 +6,7 @@ use Rattle.itip_lines.specs.declared.line.NumberedLine.{NumberedLine}
 use Rattle.itip_lines.proofs.OneReading as one_lines
 use Rattle.itip_todo.specs.Participation.{same_text}
 use Rattle.itip_todo.proofs.ReadingLaws as one_todo
-use Rattle.itip_items.specs.Needs.{is_begin, is_end}
+use Rattle.itip_items.specs.MethodNeeds.{is_begin, is_end}
 use Rattle.itip_items.specs.declared.error.MethodCause.{MethodCause}
 use Rattle.itip_items.specs.declared.error.MethodCause.TheVariants as method_cause
 use Rattle.itip_items.specs.declared.kind.Method.{Method}

@@ -24,7 +24,7 @@ use Rattle.itip_message.specs.Head.{head}
 use Rattle.itip_items.specs.Items.{ItemDraft, drafts, drafts_of, task_draft, add_drafts, attendee_draft, only_of, kind_of, raised}
 use Rattle.itip_items.specs.Items.{series_sequence, is_task, canonical_base, canonical_contents, canonical_octets, Sends, IsCanonical}
 use Rattle.itip_items.specs.Items.{IsWithinLimits}
-use Rattle.itip_items.specs.Needs.{method_cause, Suits}
+use Rattle.itip_items.specs.MethodNeeds.{method_cause, Suits}
 use Rattle.itip_items.specs.declared.error.MethodCause.{MethodCause}
 use Rattle.itip_message.specs.Message.{ReadsComponent, RefusesComponent, AreComponents, FirstRefused, HasHead, ReadsMessage, RefusesMessage}
 use Rattle.itip_message.specs.Message.{at_lines, at_frame, at_head, at_component, at_canonical_form}

@@ -22,7 +22,7 @@ use Rattle.itip_todo.specs.declared.error.TodoRefusal.{TodoRefusal}
 use Rattle.itip_todo.specs.declared.todo.Todo.{Todo}
 use Rattle.itip_items.specs.Given.{GivesItems, FirstOver, drafts_each}
 use Rattle.itip_items.specs.Items.{drafts}
-use Rattle.itip_items.specs.Needs.{is_property}
+use Rattle.itip_items.specs.MethodNeeds.{is_property}
 use Rattle.itip_items.specs.declared.item.Item.{Item}
 use Rattle.itip_items.specs.declared.kind.Method.TheVariants as method
 use Rattle.itip_message.specs.Refusals.{at_line, of_todo, large_form}

@@ -4,7 +4,7 @@ use Rattle.std.specs.Str.{str_to_ascii_uppercase}
 use Rattle.itip_lines.specs.declared.line.Line.{Line}
 use Rattle.itip_lines.specs.declared.line.NumberedLine.{NumberedLine}
 use Rattle.itip_todo.specs.Participation.{same_text}
-use Rattle.itip_items.specs.Needs.{is_begin, is_end}
+use Rattle.itip_items.specs.MethodNeeds.{is_begin, is_end}
 use Rattle.itip_message.specs.declared.frame.Placed.{Placed}
 use Rattle.itip_message.specs.declared.frame.Placed.TheVariants.{CalendarLine, TodoBegins, TodoLine}
 use Rattle.itip_message.specs.declared.sort.Component.{Component}

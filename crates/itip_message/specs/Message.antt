@@ -11,7 +11,7 @@ use Rattle.itip_todo.specs.Reading.{ReadsTodo, ReadsTodoWithin, RefusesTodo}
 use Rattle.itip_todo.specs.declared.error.TodoRefusal.{TodoRefusal}
 use Rattle.itip_todo.specs.declared.todo.Todo.{Todo}
 use Rattle.itip_items.specs.Given.{AreItemsOf, FirstOver, drafts_each}
-use Rattle.itip_items.specs.Needs.{method_cause}
+use Rattle.itip_items.specs.MethodNeeds.{method_cause}
 use Rattle.itip_items.specs.Items.{drafts, IsWithinLimits}
 use Rattle.itip_items.specs.declared.error.MethodCause.{MethodCause}
 use Rattle.itip_items.specs.declared.item.Item.{Item}

@@ -9,7 +9,7 @@ ghost use Rattle.itip_lines.specs.Reading.{plain_lines};
 ghost use Rattle.itip_lines.specs.declared.line.Line.{Line};
 ghost use Rattle.itip_moment.specs.Written.{moment_text, stamp_text};
 ghost use Rattle.itip_todo.specs.Reading.{ReadsTodo};
-ghost use Rattle.itip_items.specs.Needs.{is_property};
+ghost use Rattle.itip_items.specs.MethodNeeds.{is_property};
 ghost use Rattle.itip_message.specs.Building.{IsOneProperty, RefusesText, octet_value, text_value, zone_params, has_lawful_zone};
 ghost use Rattle.itip_message.specs.Refusals.{IfRefused, at_line};
 ghost use Rattle.itip_message.specs.declared.error.ReadError.TheVariants as error;
@@ -50,7 +50,7 @@ impl Model for TodoBuilder {
 
     ghost use Rattle.std.specs.List.{list_all};
     ghost use Rattle.itip_lines.specs.Reading.{plain_lines};
-    ghost use Rattle.itip_items.specs.Needs.{is_property};
+    ghost use Rattle.itip_items.specs.MethodNeeds.{is_property};
 
     ghost view = { λ b. b.lines.items };
 

@@ -8,7 +8,7 @@ ghost use Rattle.itip_message.specs.Refusals.{IfRefused, at_line};
 ghost use Rattle.itip_message.specs.declared.error.MessageCause.TheVariants as causes;
 ghost use Rattle.itip_message.specs.declared.error.ReadError.TheVariants as error;
 ghost use Rattle.itip_message.specs.Frame.{frame, place, innermost_first, with_front, opening, property, component_name};
-ghost use Rattle.itip_items.specs.Needs.{is_begin, is_end};
+ghost use Rattle.itip_items.specs.MethodNeeds.{is_begin, is_end};
 ghost use Rattle.itip_todo.specs.Participation.{same_text};
 
 use crate::error::{MessageCause, MessageRefusal, ReadError};

@@ -7,7 +7,7 @@ ghost use Rattle.itip_message.specs.Several.{ReadsMessagesWithin};
 ghost use Rattle.itip_message.specs.Drafts.{ReadsDraft, RefusesDraft, IsUndated, HasCanonicalBase};
 ghost use Rattle.itip_message.specs.CauseLines.{NamesPlace};
 ghost use Rattle.itip_message.specs.declared.error.MessageRefusal.{MessageRefusal};
-ghost use Rattle.itip_items.specs.Needs.{Suits};
+ghost use Rattle.itip_items.specs.MethodNeeds.{Suits};
 ghost use Rattle.itip_items.specs.declared.item.Item.{Item};
 ghost use Rattle.itip_items.specs.declared.kind.Method.TheVariants as method;
 ghost use Rattle.itip_todo.specs.Limits.{present, before_ranges};

@@ -9,7 +9,7 @@ use Rattle.itip_running.specs.declared.keeper.Keeper.{Keeper}
 use Rattle.itip_office.specs.declared.job.Work.{Work}
 use Rattle.itip_office.specs.Texts.{IsText}
 use Rattle.itip_office.specs.Answers.{Answer, AnswersMerged}
-use Rattle.itip_office.specs.Seen.{IsBrought}
+use Rattle.itip_office.specs.LooksAndCarries.{IsBrought}
 use Rattle.itip_office.specs.Merged.{AreMerged, ShowsBatch, GrewBy, IsIdle, ShowsOne, GrewShown}
 use Rattle.itip_office.proofs.Sharing.{zip_push}
 

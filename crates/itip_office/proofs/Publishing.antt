@@ -16,7 +16,7 @@ use Rattle.itip_running.specs.Seen.{published, keeper_pair}
 use Rattle.itip_running.specs.declared.keeper.Keeper.{Keeper}
 use Rattle.itip_office.specs.Texts.{desk_of}
 use Rattle.itip_office.specs.Answers.{Answer, AnswersAlone}
-use Rattle.itip_office.specs.Seen.{Source, IsOneOf, LooksAt, IsAnswered, IsBrought}
+use Rattle.itip_office.specs.LooksAndCarries.{Source, IsOneOf, LooksAt, IsAnswered, IsBrought}
 use Rattle.itip_office.specs.Merged.{AreMerged, IsMerged, GrewShown, GrewTexts}
 use Rattle.itip_office.specs.Published.{Publication, shown_of, publication_of, IsBeginning, ArePublished, AreShown}
 use Rattle.itip_office.specs.Published.{IsPublication, HasShown, answers_of}

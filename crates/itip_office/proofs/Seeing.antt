@@ -15,7 +15,7 @@ use Rattle.itip_office.specs.declared.job.Work.{Work}
 use Rattle.itip_office.specs.declared.job.Work.TheVariants.{Text, Carry, Look}
 use Rattle.itip_office.specs.declared.outcome.Outcome.{Outcome}
 use Rattle.itip_office.specs.Answers.{Answer, AnswersMerged}
-use Rattle.itip_office.specs.Seen.{Source, IsOneOf, IsListed, LooksAt, IsAnswered, Brings, IsBrought}
+use Rattle.itip_office.specs.LooksAndCarries.{Source, IsOneOf, IsListed, LooksAt, IsAnswered, Brings, IsBrought}
 use Rattle.itip_office.specs.Merged.{GrewBy, GrewShown, ShowsOne}
 use Rattle.itip_office.specs.Published.{ArePublished}
 use Rattle.itip_office.specs.Pairs.{HasKept}

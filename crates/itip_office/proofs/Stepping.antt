@@ -8,7 +8,7 @@ use Rattle.itip_office.specs.declared.outcome.Outcome.{Outcome}
 use Rattle.itip_office.specs.declared.job_loop.Step.{Step}
 use Rattle.itip_office.specs.declared.job_loop.Step.TheVariants.{Answers, HandsOn}
 use Rattle.itip_office.specs.Texts.{Merges}
-use Rattle.itip_office.specs.Seen.{LooksAt, IsAnswered, IsBrought}
+use Rattle.itip_office.specs.LooksAndCarries.{LooksAt, IsAnswered, IsBrought}
 use Rattle.itip_office.specs.Steps.{IsStepOf, HasSeen}
 
 module _ (desks : ℕ) (IsSeen : ℕ → List (List Item) → Type 0) where

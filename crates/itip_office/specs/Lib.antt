@@ -6,7 +6,7 @@ pub mod Numbers
 pub mod Texts
 pub mod Answers
 pub mod Taken
-pub mod Seen
+pub mod LooksAndCarries
 pub mod Steps
 pub mod Sending
 pub mod Merged

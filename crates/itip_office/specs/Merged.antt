@@ -11,7 +11,7 @@ use Rattle.itip_office.specs.declared.job.Work.TheVariants.{Text, Carry, Look}
 use Rattle.itip_office.specs.Texts.{IsBatchOf, IsText}
 use Rattle.itip_office.specs.Answers.{Answer, AnswersMerged}
 use Rattle.itip_office.specs.Taken.{AreTaken}
-use Rattle.itip_office.specs.Seen.{IsBrought}
+use Rattle.itip_office.specs.LooksAndCarries.{IsBrought}
 
 -- These batches were merged for these jobs, one for each, in order.
 abbrev pub AreMerged : ℕ → List Answer → List (List Item) → Type 0

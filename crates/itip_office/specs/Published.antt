@@ -7,7 +7,7 @@ use Rattle.itip_running.specs.Seen.{published}
 use Rattle.itip_running.specs.declared.keeper.Keeper.{Keeper}
 use Rattle.itip_office.specs.Texts.{desk_of, IsText}
 use Rattle.itip_office.specs.Answers.{Answer, AnswersAlone}
-use Rattle.itip_office.specs.Seen.{LooksAt, IsBrought}
+use Rattle.itip_office.specs.LooksAndCarries.{LooksAt, IsBrought}
 use Rattle.itip_office.specs.Merged.{AreMerged, IsMerged}
 
 -- What one keeper did: the jobs that it merged, in order, and the batches that it published, in order, if it has a running desk.

@@ -7,7 +7,7 @@ use Rattle.itip_office.specs.declared.job_loop.Step.{Step}
 use Rattle.itip_office.specs.declared.job_loop.Step.TheVariants.{Answers, HandsOn}
 use Rattle.itip_office.specs.Texts.{Merges, AreThere}
 use Rattle.itip_office.specs.Answers.{AnswersAlone}
-use Rattle.itip_office.specs.Seen.{LooksAt, IsBrought}
+use Rattle.itip_office.specs.LooksAndCarries.{LooksAt, IsBrought}
 
 -- the desk is the one at which a job is merged
 abbrev pub IsMergedAt : Work → ℕ → Type 0

@@ -5,7 +5,7 @@ ghost use Rattle.itip_running.specs.declared.keeper.Keeper.{Keeper};
 ghost use Rattle.itip_office.specs.Texts.{Merges};
 ghost use Rattle.itip_office.specs.Answers.{AnswersMerged};
 ghost use Rattle.itip_office.specs.Exchanged.{AreNoLoops};
-ghost use Rattle.itip_office.specs.Seen.{IsOneOf};
+ghost use Rattle.itip_office.specs.LooksAndCarries.{IsOneOf};
 ghost use Rattle.itip_office.specs.Merged.{IsIdle, ShowsOne, GrewShown, TookText, GrewTexts, MergedOne};
 
 use crate::answers::keep_answer;

@@ -2,7 +2,7 @@
 ghost use Rattle.std.specs.Prelude.{◌≡◌, ◌≢◌, length, All, IfOk, OnOk, IfErr, IfSome, IsErrOf, option_to_list};
 ghost use Rattle.itip_office.specs.declared.job.Work.TheVariants.{Text, Carry, Look};
 ghost use Rattle.itip_office.specs.Exchanged.{AreNoLoops};
-ghost use Rattle.itip_office.specs.Seen.{IsOneOf, IsAnswered};
+ghost use Rattle.itip_office.specs.LooksAndCarries.{IsOneOf, IsAnswered};
 ghost use Rattle.itip_office.specs.Steps.{IsStepOf, HasSeen};
 
 use crate::answers::keep_answer;

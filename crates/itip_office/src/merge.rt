@@ -1,7 +1,7 @@
 //! What a worker sends to a keeper.
 ghost use Rattle.std.specs.Prelude.{option_to_list};
 ghost use Rattle.itip_office.specs.Texts.{Merges};
-ghost use Rattle.itip_office.specs.Seen.{IsOneOf, IsBrought};
+ghost use Rattle.itip_office.specs.LooksAndCarries.{IsOneOf, IsBrought};
 
 use crate::job::Job;
 use crate::pairs::Pairs;

@@ -2,7 +2,7 @@
 ghost use Rattle.std.specs.Prelude.{◌≡◌, ◌≢◌, ◌⊎◌, ◌≤◌, ℕ, [], length, map, All, IfOk, OnOk, IfErr, IsErrOf, IsTrue};
 ghost use Rattle.itip_running.specs.Seen.{pass_pair};
 ghost use Rattle.itip_office.specs.Answers.{AnswersAlone};
-ghost use Rattle.itip_office.specs.Seen.{IsOneOf, IsAnswered};
+ghost use Rattle.itip_office.specs.LooksAndCarries.{IsOneOf, IsAnswered};
 ghost use Rattle.itip_office.specs.Merged.{HasMerged};
 ghost use Rattle.itip_office.specs.Pairs.{IsFresh, IsOfPair, IsStarted, HasKept};
 ghost use Rattle.itip_office.specs.Published.{AreShown, IsBeginning, publication_of};

@@ -13,7 +13,7 @@ use Rattle.itip_items.specs.declared.kind.Kind.TheVariants as kind
 use Rattle.itip_items.proofs.Lawfulness.{raised_small, series_small}
 use Rattle.itip_items.proofs.SameItem.{draft, alone}
 use Rattle.itip_state.specs.Organizers.{IsLastUsed}
-use Rattle.itip_report.specs.Organizing.{IsNext, last_sequence}
+use Rattle.itip_report.specs.NextSequence.{IsNext, last_sequence}
 
 abbrev IsSmall : ItemDraft → Type 0
 IsSmall draft = draft.eff ≤ last_sequence

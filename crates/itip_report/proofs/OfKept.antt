@@ -10,7 +10,8 @@ use Rattle.itip_state.specs.Organizers.{IsOrganizers, IsLastUsed}
 use Rattle.itip_state.proofs.Best.{best_above}
 use Rattle.itip_state.proofs.Keeping.{kept_again, series_kept}
 use Rattle.itip_view.proofs.Alike.{KeepAlike, alike_back, series_alike, stands_alike, stands_from_alike, live_series_alike, governs_alike}
-use Rattle.itip_report.specs.Organizing.{AreResent, AreStanding, IsResendOf, IsNext, last_sequence}
+use Rattle.itip_report.specs.Resending.{AreResent, AreStanding, IsResendOf}
+use Rattle.itip_report.specs.NextSequence.{IsNext, last_sequence}
 use Rattle.itip_report.specs.Reports.{IsStanding, IsCancellation, NoneAt, NoneAtInstance, IsOrphan, IsWanted, IsReported, AreReportLines}
 use Rattle.itip_report.specs.declared.report.Report.{Report}
 use Rattle.itip_report.specs.declared.report.Report.TheVariants as report

@@ -9,7 +9,8 @@ use Rattle.itip_state.specs.Organizers.{IsLastUsed}
 use Rattle.itip_state.proofs.OneOrder.{less_one_way, same_ascending}
 use Rattle.itip_view.proofs.OneRow.{one_best}
 use Rattle.itip_report.specs.Lines.{place_cmp, AscendPlaces}
-use Rattle.itip_report.specs.Organizing.{IsResend, IsResendOf, IsNext, last_sequence}
+use Rattle.itip_report.specs.Resending.{IsResend, IsResendOf}
+use Rattle.itip_report.specs.NextSequence.{IsNext, last_sequence}
 use Rattle.itip_report.specs.Reports.{AreReportLines, line_of}
 use Rattle.itip_report.specs.declared.report.Report.{Report}
 use Rattle.itip_report.proofs.Placing.{place_total}

@@ -7,7 +7,7 @@ use Rattle.itip_items.specs.declared.item.Item.{Item}
 use Rattle.itip_state.specs.Kept.{ArePart}
 use Rattle.itip_state.proofs.Members.{none_in}
 use Rattle.itip_view.specs.Standing.{IsLiveSeries}
-use Rattle.itip_report.specs.Organizing.{AreResent, AreStanding, IsResendOf}
+use Rattle.itip_report.specs.Resending.{AreResent, AreStanding, IsResendOf}
 use Rattle.itip_report.proofs.SameOf.{SaySame, say_back, standing_there, live_there}
 
 standing_all_there : (uid : List ℕ) (x y : List Item) → SaySame uid x y → (items : List Item) → AreStanding x uid items → AreStanding y uid items

@@ -4,7 +4,7 @@ use Rattle.std.specs.List.{flat_map}
 use Rattle.itip_message.specs.Message.{ReadsMessage}
 use Rattle.itip_items.specs.declared.item.Item.{Item}
 use Rattle.itip_message.proofs.ReadAgain.{reads_again}
-use Rattle.itip_report.specs.Organizing.{IsResend}
+use Rattle.itip_report.specs.Resending.{IsResend}
 
 pub sent_alone : (heard : List Item) (uid bytes : List ℕ) (sent : IsResend heard uid bytes) → sent.overrides ≡ [] →
     ReadsMessage bytes (sent.series ∷ [])

@@ -13,7 +13,7 @@ use Rattle.itip_items.specs.declared.key.Key.{Key}
 use Rattle.itip_items.specs.declared.key.Key.TheVariants.{Series, Instance, Range}
 use Rattle.itip_state.specs.Kept.{IsBest, AreOf, AscendKeys}
 use Rattle.itip_state.specs.Order.{IsState}
-use Rattle.itip_view.specs.OfUid.{IsSeriesItem, StandsBesideOf}
+use Rattle.itip_view.specs.RowsOfUid.{IsSeriesItem, StandsBesideOf}
 use Rattle.itip_view.specs.Standing.{IsCancelled, StandsUnder, Governs}
 use Rattle.itip_view.proofs.Beside.{stands_from, beside_from}
 use Rattle.itip_state.proofs.OfKey.{best_in}

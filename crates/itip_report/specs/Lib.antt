@@ -4,7 +4,8 @@ pub mod Load
 pub mod Progress
 pub mod ReportNames
 pub mod Named
-pub mod Organizing
+pub mod Resending
+pub mod NextSequence
 pub mod Sought
 pub mod Tally
 pub mod Records

@@ -6,7 +6,8 @@ ghost use Rattle.itip_view.specs.OfKept.{FollowsFromKept};
 ghost use Rattle.itip_view.specs.declared.window.Window.{Window};
 ghost use Rattle.itip_report.specs.Reports.{AreReportLines};
 ghost use Rattle.itip_report.specs.Named.{IsReportOf};
-ghost use Rattle.itip_report.specs.Organizing.{IsResend, IsResendOf, IsNext};
+ghost use Rattle.itip_report.specs.Resending.{IsResend, IsResendOf};
+ghost use Rattle.itip_report.specs.NextSequence.{IsNext};
 ghost use Rattle.itip_report.specs.declared.report.Report.{Report};
 ghost use Rattle.itip_report.specs.declared.report_name.ReportName.{ReportName};
 

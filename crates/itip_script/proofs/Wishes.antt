@@ -11,7 +11,7 @@ use Rattle.itip_script.specs.Stream.{Wish, asks, malformed, empty, wish_of, wish
 use Rattle.itip_script.specs.Stream.{whole, too_long, cut_off, brought, ReadsBody}
 use Rattle.itip_script.specs.declared.command.Verb.{Verb}
 use Rattle.itip_script.specs.declared.command.Verb.TheVariants as verb
-use Rattle.itip_script.specs.declared.stream.StreamLine.{StreamLine}
+use Rattle.itip_script.specs.declared.stream_line.StreamLine.{StreamLine}
 
 -- ---- the wish of a line
 

@@ -11,8 +11,8 @@ use Rattle.itip_script.specs.declared.body.Body.{Body}
 use Rattle.itip_script.specs.declared.body.Body.TheVariants as body
 use Rattle.itip_script.specs.declared.command.Verb.{Verb}
 use Rattle.itip_script.specs.declared.command.Verb.TheVariants as verb
-use Rattle.itip_script.specs.declared.stream.StreamLine.{StreamLine}
-use Rattle.itip_script.specs.declared.stream.StreamLine.TheVariants as line
+use Rattle.itip_script.specs.declared.stream_line.StreamLine.{StreamLine}
+use Rattle.itip_script.specs.declared.stream_line.StreamLine.TheVariants as line
 
 -- the most bytes of a line with its break, of a message and of a delta
 abbrev pub line_limit : ℕ

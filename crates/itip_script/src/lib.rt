@@ -11,7 +11,8 @@ mod input;
 mod job;
 mod laws;
 mod line;
-mod stream;
+mod stream_limits;
+mod stream_line;
 mod word;
 
 pub use body::{Body, read_body};
@@ -21,5 +22,6 @@ pub use input::{MAX_OCTETS, read_script};
 pub use itip_streams::StreamFault as ScriptFault;
 pub use job::{JobCommand, JobCommands};
 pub use laws::{one_cutting, one_spelling};
-pub use stream::{DELTA_OCTETS, LINE_OCTETS, MESSAGE_OCTETS, StreamLine};
+pub use stream_limits::{DELTA_OCTETS, LINE_OCTETS, MESSAGE_OCTETS};
+pub use stream_line::StreamLine;
 pub use word::read_number;

@@ -11,7 +11,7 @@ use Rattle.itip_join.specs.Optional.{IsBelowUnder}
 use Rattle.itip_join.specs.Lifted.{IsLiftedBelow}
 use Rattle.itip_join.specs.Ranked.{IsUpTo}
 use Rattle.itip_items.specs.KeyParts.{uid_of}
-use Rattle.itip_items.specs.Later.{IsLater, revision_cmp}
+use Rattle.itip_items.specs.RevisionOrder.{IsLater, revision_cmp}
 use Rattle.itip_items.specs.declared.item.Item.{Item}
 use Rattle.itip_items.specs.declared.key.Key.{Key}
 use Rattle.itip_items.specs.declared.key.Key.TheVariants.{Series}

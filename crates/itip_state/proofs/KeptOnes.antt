@@ -12,7 +12,7 @@ use Rattle.std.specs.declared.cmp.Ordering.{Ordering}
 use Rattle.std.specs.declared.cmp.Ordering.TheVariants.{Less, Equal, Greater}
 use Rattle.std.proofs.lemmas.List.Elements.{Contains-append_left, Contains-push, Contains-push_cases, Contains-get_or}
 use Rattle.std.proofs.lemmas.List.Quantifiers.{all_pairs_push}
-use Rattle.itip_items.specs.Later.{revision_cmp, IsLater}
+use Rattle.itip_items.specs.RevisionOrder.{revision_cmp, IsLater}
 use Rattle.itip_items.specs.declared.item.Item.{Item}
 use Rattle.itip_state.specs.Kept.{IsKept, AreKept}
 use Rattle.itip_state.specs.Slots.{slot_cmp, slot_total, slot_exact}

@@ -4,7 +4,7 @@ use Rattle.std.specs.Ordering.{is_gt}
 use Rattle.std.specs.declared.cmp.Ordering.{Ordering}
 use Rattle.std.specs.declared.cmp.Ordering.TheVariants.{Less, Equal, Greater}
 use Rattle.itip_join.specs.Ranked.{IsUpTo, IsUpTo-tie}
-use Rattle.itip_items.specs.Later.{revision_cmp, IsLater}
+use Rattle.itip_items.specs.RevisionOrder.{revision_cmp, IsLater}
 use Rattle.itip_items.specs.declared.item.Item.{Item}
 use Rattle.itip_items.specs.Revisions.{revisions_total}
 use Rattle.itip_items.proofs.Revisions.{revision_exact}

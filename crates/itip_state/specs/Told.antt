@@ -2,7 +2,7 @@
 -- Everything else is news.
 use Rattle.std.specs.Prelude.{◌≡◌, List, Some, ◌⊎◌, true, false}
 use Rattle.std.specs.List.{Contains}
-use Rattle.itip_items.specs.Later.{IsLater}
+use Rattle.itip_items.specs.RevisionOrder.{IsLater}
 use Rattle.itip_items.specs.declared.item.Item.{Item}
 use Rattle.itip_join.specs.declared.lift.Lift.TheVariants.{Known}
 use Rattle.itip_join.specs.KeyByKey.{value_at}

@@ -4,26 +4,26 @@
 //! gives their least upper bound.
 #![tactic(auto)]
 
+mod best_revision;
 mod due;
 mod hear;
 mod held;
 mod held_of_uid;
+mod items_of_uid;
 mod laws;
-mod of_uid;
 mod organizers;
 mod parts;
 mod plain;
-mod revision;
 mod shared;
 mod slot;
 mod state;
 mod told;
 mod tracked;
 
+pub use best_revision::Revision;
+pub use items_of_uid::ItemsOfUid;
 pub use laws::{kept_of_kept, least_upper_bound, order_of_states, uid_by_uid};
-pub use of_uid::ItemsOfUid;
 pub use plain::kept;
-pub use revision::Revision;
 pub use shared::{SharedItem, by_octets, uids};
 pub use state::State;
 pub use std::alloc::AllocError as NoMemory;

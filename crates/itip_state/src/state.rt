@@ -16,7 +16,7 @@ use crate::NoMemory;
 use crate::hear::{hear, hear_all};
 use crate::held::Held;
 use crate::held_of_uid::{HeldOfUid, holds, share, share_at};
-use crate::of_uid::ItemsOfUid;
+use crate::items_of_uid::ItemsOfUid;
 use crate::organizers::greatest;
 use crate::shared::{SharedItem, by_octets};
 use crate::told::outdoes;

@@ -1,13 +1,13 @@
 //! Which items add nothing to what is held.
 ghost use Rattle.std.specs.Prelude.{◌↔◌, IsTrue, map};
-ghost use Rattle.itip_items.specs.Later.{IsLater};
+ghost use Rattle.itip_items.specs.RevisionOrder.{IsLater};
 ghost use Rattle.itip_state.specs.Held.{items_of, AreHeld};
 ghost use Rattle.itip_state.specs.UidStates.{uid_state};
 ghost use Rattle.itip_state.specs.Told.{IsOutdone, AreOutdone, HoldsNoEarlier};
 
+use crate::best_revision::Best;
 use crate::held::Held;
 use crate::held_of_uid::{HeldOfUid, is_dead_below};
-use crate::revision::Best;
 use crate::shared::SharedItem;
 use itip_items::Item;
 use itip_join::Lift;

@@ -6,7 +6,7 @@ use Rattle.itip_items.specs.declared.key.Key.{Key}
 use Rattle.itip_items.specs.declared.key.Key.TheVariants.{Series}
 use Rattle.itip_state.specs.Kept.{IsBest}
 use Rattle.itip_view.specs.Answers.{Asked, NoneCounts}
-use Rattle.itip_view.specs.OfUid.{IsSeriesItem, StandsBesideOf}
+use Rattle.itip_view.specs.RowsOfUid.{IsSeriesItem, StandsBesideOf}
 use Rattle.itip_view.specs.Standing.{StandsUnder, StandsBeside}
 use Rattle.itip_view.proofs.OneRow.{one_best}
 

@@ -15,7 +15,7 @@ use Rattle.itip_moment.specs.Order.{moment_cmp}
 use Rattle.itip_moment.specs.declared.moment.Moment.{Moment}
 use Rattle.itip_items.specs.declared.item.Item.{Item}
 use Rattle.itip_state.proofs.Members.{none_in, cons_cases, no_pairs}
-use Rattle.itip_view.specs.OfUid.{IsRowAt, IsAnswerAt, ArePlaces, AreRowsOf}
+use Rattle.itip_view.specs.RowsOfUid.{IsRowAt, IsAnswerAt, ArePlaces, AreRowsOf}
 use Rattle.itip_view.specs.Rows.{IsRow, IsInstanceRow, IsOccurrenceRow, IsRangeRow, IsSingleRow, IsOpaqueRow, AscendRows, moment_of}
 use Rattle.itip_view.specs.Rows.{row_cmp}
 use Rattle.itip_view.specs.Standing.{IsLiveSeries, Stands}

@@ -10,11 +10,11 @@ use Rattle.std.proofs.lemmas.List.Elements.{filter-append}
 use Rattle.itip_moment.specs.Order.{moment_cmp}
 use Rattle.itip_moment.specs.declared.moment.Moment.{Moment}
 use Rattle.itip_state.specs.OfUid.{UidPart}
-use Rattle.itip_view.specs.OfUid.{ArePlaces}
-use Rattle.itip_view.specs.Places.{AreWanted, IsPlaceAt, IsWanted}
+use Rattle.itip_view.specs.RowsOfUid.{ArePlaces}
+use Rattle.itip_view.specs.UnmadeRows.{AreWanted, IsPlaceAt, IsWanted}
 use Rattle.itip_view.specs.Wanted.{wants}
 use Rattle.itip_view.specs.declared.row.Row.{Row}
-use Rattle.itip_view.specs.declared.row_place.RowPlace.{RowPlace}
+use Rattle.itip_view.specs.declared.unmade_row.UnmadeRow.{UnmadeRow}
 use Rattle.itip_view.specs.declared.wanted.Wanted.{Wanted}
 use Rattle.itip_view.specs.declared.window.Window.{Window}
 use Rattle.itip_view.proofs.Collecting.{RowsUpTo, rows_begin, rows_next, rows_of_places}
@@ -49,7 +49,7 @@ pub record CountedUpTo (wanted : Wanted) (part : UidPart) (window : Window) (don
   pub few : number ≤ length done + 1
 
 module _ (wanted : Wanted) (part : UidPart) (window : Window) where
-  pub count_begins : (place : Option RowPlace) → IsPlaceAt part window None place → (yes : Bool) → IsWanted wanted part place yes →
+  pub count_begins : (place : Option UnmadeRow) → IsPlaceAt part window None place → (yes : Bool) → IsWanted wanted part place yes →
       CountedUpTo wanted part window [] (from_bool yes)
   count_begins place is out told =
       let row = wanted_at part window None wanted place is out told in
@@ -65,7 +65,7 @@ module _ (wanted : Wanted) (part : UidPart) (window : Window) where
       }
 
   pub count_more : (done : List Moment) (next : Moment) (number : ℕ) → CountedUpTo wanted part window done number →
-      ((at : Moment) → Contains done at → moment_cmp at next ≡ Less) → (place : Option RowPlace) →
+      ((at : Moment) → Contains done at → moment_cmp at next ≡ Less) → (place : Option UnmadeRow) →
       IsPlaceAt part window (Some next) place → (yes : Bool) → IsWanted wanted part place yes →
       CountedUpTo wanted part window (done ++ next ∷ []) (number + from_bool yes)
   count_more done next number so later place is out told =

@@ -4,7 +4,7 @@ use Rattle.std.specs.Prelude.{MatchOption, if◌then◌else◌}
 use Rattle.itip_moment.specs.declared.moment.Moment.{Moment}
 use Rattle.itip_items.specs.declared.item.Item.{Item}
 use Rattle.itip_items.specs.declared.key.Key.TheVariants.{Series, Instance}
-use Rattle.itip_view.specs.OfUid.{IsSeriesItem}
+use Rattle.itip_view.specs.RowsOfUid.{IsSeriesItem}
 use Rattle.itip_view.specs.Rows.{HasFields, IsRow, ShowsGoverning, moment_of}
 use Rattle.itip_view.specs.Standing.{is_live, if_live, IsLive, IsCancelled, Stands, NoneStands, Rules, NoneRules, IsLiveSeries}
 use Rattle.itip_view.specs.Standing.{GovernsBetween, Governs}

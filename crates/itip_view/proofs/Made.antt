@@ -8,13 +8,13 @@ use Rattle.itip_items.specs.declared.item.Item.{Item}
 use Rattle.itip_state.proofs.Best.{has_best}
 use Rattle.itip_state.specs.OfUid.{UidPart}
 use Rattle.itip_view.specs.Answers.{Asked, Decides, AreShown, shown_line, in_front}
-use Rattle.itip_view.specs.OfUid.{IsAnswerAt, asked_by}
-use Rattle.itip_view.specs.Places.{governing_item, id_of, questions_of, HasDates, IsShownAt, IsPlaceAt, IsMade, IsWanted}
+use Rattle.itip_view.specs.RowsOfUid.{IsAnswerAt, asked_by}
+use Rattle.itip_view.specs.UnmadeRows.{governing_item, id_of, questions_of, HasDates, IsShownAt, IsPlaceAt, IsMade, IsWanted}
 use Rattle.itip_view.specs.Progress.{progress_of}
 use Rattle.itip_view.specs.Wanted.{shows_named, is_due_before, is_over, takes, wants}
 use Rattle.itip_view.specs.declared.row.Row.{Row}
 use Rattle.itip_view.specs.declared.row.ShownAttendee.{ShownAttendee}
-use Rattle.itip_view.specs.declared.row_place.RowPlace.{RowPlace}
+use Rattle.itip_view.specs.declared.unmade_row.UnmadeRow.{UnmadeRow}
 use Rattle.itip_view.specs.declared.wanted.Wanted.{Wanted}
 use Rattle.itip_view.specs.declared.window.Window.{Window}
 use Rattle.itip_view.proofs.Beside.{none_counts, too_early}
@@ -56,7 +56,7 @@ and_true : (b : Bool) → (b && true) ≡ b
 and_true true = refl
 and_true false = refl
 
-module _ (part : UidPart) (place : RowPlace) (start due : Option Moment)
+module _ (part : UidPart) (place : UnmadeRow) (start due : Option Moment)
     (dates : HasDates (governing_item place.governing) place.kind start due) where
   -- the row of the place, with these dates and attendees
   abbrev pub row_at_place : List ShownAttendee → Row
@@ -129,13 +129,13 @@ passes_if p (Some row) = p row
 
 module _ (part : UidPart) (window : Window) (at : Option Moment) where
   -- what is made of a place is the row there, or there is none
-  pub made_at : (place : Option RowPlace) → IsPlaceAt part window at place → (row : Option Row) → IsMade part place row →
+  pub made_at : (place : Option UnmadeRow) → IsPlaceAt part window at place → (row : Option Row) → IsMade part place row →
       IsAnswerAt part.items window part.uid at row
   made_at None none row made = subst (IsAnswerAt part.items window part.uid at) (sym made) none
   made_at (Some place) is row made = subst (IsAnswerAt part.items window part.uid at) (sym made.1) (is made.0 made.2)
 
   -- and whether it is asked for
-  pub wanted_at : (wanted : Wanted) (place : Option RowPlace) → IsPlaceAt part window at place → (yes : Bool) →
+  pub wanted_at : (wanted : Wanted) (place : Option UnmadeRow) → IsPlaceAt part window at place → (yes : Bool) →
       IsWanted wanted part place yes →
       (row : Option Row) × IsAnswerAt part.items window part.uid at row × (passes_if (wants wanted) row ≡ yes)
   wanted_at wanted None none out is = (None, none, sym is)

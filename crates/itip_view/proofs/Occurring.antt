@@ -14,7 +14,7 @@ use Rattle.itip_items.specs.declared.key.Key.TheVariants as key
 use Rattle.itip_state.proofs.Members.{none_in}
 use Rattle.itip_view.specs.OccurringWhole.{AreOccurring, IsOccurringOf}
 use Rattle.itip_view.specs.InQuestion.{OccursAt}
-use Rattle.itip_view.specs.OfUid.{IsWhole, IsOccurrence, AreOccurrencesOf}
+use Rattle.itip_view.specs.RowsOfUid.{IsWhole, IsOccurrence, AreOccurrencesOf}
 use Rattle.itip_view.specs.declared.whole.Whole.{Whole}
 use Rattle.itip_view.specs.declared.window.Window.{Window}
 use Rattle.itip_view.proofs.OneRow.{one_best}

@@ -12,7 +12,7 @@ use Rattle.itip_moment.proofs.Same.{moment_equal}
 use Rattle.itip_moment.proofs.ValueLaws.{shifted-one}
 use Rattle.itip_todo.specs.Properties.{Property}
 use Rattle.itip_recur.specs.ToDoShape.{Recurs}
-use Rattle.itip_items.specs.Later.{revision_cmp}
+use Rattle.itip_items.specs.RevisionOrder.{revision_cmp}
 use Rattle.itip_items.specs.declared.item.Item.{Item}
 use Rattle.itip_items.specs.declared.key.Key.{Key}
 use Rattle.itip_items.specs.declared.key.Key.TheVariants.{Series, Instance, Range}

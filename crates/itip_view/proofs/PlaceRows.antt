@@ -9,8 +9,8 @@ use Rattle.itip_items.specs.declared.item.Item.{Item}
 use Rattle.itip_items.specs.declared.key.Key.TheVariants as key
 use Rattle.itip_state.specs.OfUid.{UidPart}
 use Rattle.itip_view.specs.Answers.{Asked, AreShown}
-use Rattle.itip_view.specs.OfUid.{IsRowOf, IsRowAt, IsOccurrence}
-use Rattle.itip_view.specs.Places.{HasOwn}
+use Rattle.itip_view.specs.RowsOfUid.{IsRowOf, IsRowAt, IsOccurrence}
+use Rattle.itip_view.specs.UnmadeRows.{HasOwn}
 use Rattle.itip_view.specs.Rows.{
   IsInstanceRow,
   IsOccurrenceRow,

@@ -12,7 +12,7 @@ use Rattle.itip_items.specs.declared.key.Key.TheVariants as key
 use Rattle.itip_state.specs.Kept.{AscendKeys}
 use Rattle.itip_state.proofs.Members.{none_in}
 use Rattle.itip_state.specs.Kept.{AreOf}
-use Rattle.itip_view.specs.OfUid.{IsSeriesItem, StandsBesideOf, AreOccurrencesOf, ArePlaces}
+use Rattle.itip_view.specs.RowsOfUid.{IsSeriesItem, StandsBesideOf, AreOccurrencesOf, ArePlaces}
 use Rattle.itip_view.specs.declared.window.Window.{Window}
 use Rattle.itip_view.proofs.Beside.{stands_from, beside_from}
 use Rattle.itip_state.proofs.OfKey.{best_in}

@@ -11,12 +11,12 @@ use Rattle.itip_moment.specs.Order.{moment_cmp}
 use Rattle.itip_moment.specs.declared.moment.Moment.{Moment}
 use Rattle.itip_state.specs.OfUid.{UidPart}
 use Rattle.itip_view.specs.ListText.{list_text, row_text}
-use Rattle.itip_view.specs.OfUid.{ArePlaces}
-use Rattle.itip_view.specs.Places.{IsPlaceAt}
+use Rattle.itip_view.specs.RowsOfUid.{ArePlaces}
+use Rattle.itip_view.specs.UnmadeRows.{IsPlaceAt}
 use Rattle.itip_view.specs.PutRows.{IsPlacePut, ArePut}
 use Rattle.itip_view.specs.Wanted.{wants}
 use Rattle.itip_view.specs.declared.row.Row.{Row}
-use Rattle.itip_view.specs.declared.row_place.RowPlace.{RowPlace}
+use Rattle.itip_view.specs.declared.unmade_row.UnmadeRow.{UnmadeRow}
 use Rattle.itip_view.specs.declared.wanted.Wanted.{Wanted}
 use Rattle.itip_view.specs.declared.window.Window.{Window}
 use Rattle.itip_view.proofs.Collecting.{RowsUpTo, rows_begin, rows_next, rows_of_places}
@@ -32,7 +32,7 @@ pub record PutUpTo (wanted : Wanted) (part : UidPart) (window : Window) (done : 
   pub few : number ≤ length done + 1
 
 module _ (wanted : Wanted) (part : UidPart) (window : Window) where
-  pub put_begins : (place : Option RowPlace) → IsPlaceAt part window None place → (old new : List ℕ) (is_put : Bool) →
+  pub put_begins : (place : Option UnmadeRow) → IsPlaceAt part window None place → (old new : List ℕ) (is_put : Bool) →
       IsPlacePut wanted part place old new is_put → PutUpTo wanted part window [] old new (from_bool is_put)
   put_begins place is old new is_put put =
       let one : from_bool is_put ≤ 1 = one_at_most is_put in
@@ -45,7 +45,7 @@ module _ (wanted : Wanted) (part : UidPart) (window : Window) where
       }
 
   pub put_more : (done : List Moment) (next : Moment) (old mid new : List ℕ) (number : ℕ) → PutUpTo wanted part window done old mid number →
-      ((at : Moment) → Contains done at → moment_cmp at next ≡ Less) → (place : Option RowPlace) →
+      ((at : Moment) → Contains done at → moment_cmp at next ≡ Less) → (place : Option UnmadeRow) →
       IsPlaceAt part window (Some next) place → (is_put : Bool) → IsPlacePut wanted part place mid new is_put →
       PutUpTo wanted part window (done ++ next ∷ []) old new (number + from_bool is_put)
   put_more done next old mid new number so later place is is_put put =

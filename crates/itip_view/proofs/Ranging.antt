@@ -17,7 +17,7 @@ use Rattle.itip_items.specs.declared.key.Key.TheVariants as key
 use Rattle.itip_state.specs.OfUid.{UidPart, IsUidPart}
 use Rattle.itip_state.proofs.Members.{none_in}
 use Rattle.itip_state.proofs.OfKey.{best_in}
-use Rattle.itip_view.specs.OfUid.{IsSeriesItem, StandsBesideOf}
+use Rattle.itip_view.specs.RowsOfUid.{IsSeriesItem, StandsBesideOf}
 use Rattle.itip_view.specs.Ruling.{AreRanges, AreRangesInOrder, range_cmp}
 use Rattle.itip_view.specs.Standing.{HaveOneForm, Reaches, StandsFrom, Rules, NoneRules}
 use Rattle.itip_view.specs.declared.ranges.RangeFrom.{RangeFrom}

@@ -6,7 +6,7 @@ use Rattle.itip_items.specs.declared.item.Item.{Item}
 use Rattle.itip_state.specs.Kept.{ArePart}
 use Rattle.itip_state.proofs.Members.{by_bool, none_in, cons_cases, cons_first, cons_later}
 use Rattle.std.specs.declared.cmp.Ordering.TheVariants.{Less}
-use Rattle.itip_view.specs.OfUid.{AreRowsOf}
+use Rattle.itip_view.specs.RowsOfUid.{AreRowsOf}
 use Rattle.itip_view.specs.Rows.{row_cmp}
 use Rattle.itip_view.specs.Showing.{IsOf, AreRowsWhere}
 use Rattle.itip_view.specs.declared.row.Row.{Row}

@@ -3,7 +3,7 @@ use Rattle.std.specs.Prelude.{◌≡◌, List}
 use Rattle.itip_moment.specs.declared.moment.Moment.{Moment}
 use Rattle.itip_items.specs.declared.item.Item.{Item}
 use Rattle.itip_state.specs.OfUid.{UidPart}
-use Rattle.itip_view.specs.OfUid.{IsWhole, IsBetween, IsOccurrence, ArePlaces, AreRowsOf}
+use Rattle.itip_view.specs.RowsOfUid.{IsWhole, IsBetween, IsOccurrence, ArePlaces, AreRowsOf}
 use Rattle.itip_view.specs.Rows.{NoneStandsAtStart}
 use Rattle.itip_view.specs.Standing.{Stands, NoneStands, Rules, NoneRules, IsLiveSeries}
 use Rattle.itip_view.specs.declared.rows_of_uid.UidView.{UidView}

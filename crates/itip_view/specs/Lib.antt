@@ -5,7 +5,7 @@ pub mod Answers
 pub mod Progress
 pub mod Rows
 pub mod InWindow
-pub mod OfUid
+pub mod RowsOfUid
 pub mod Ruling
 pub mod InUid
 pub mod ListText
@@ -14,10 +14,10 @@ pub mod TodoLines
 pub mod Blocks
 pub mod Wanting
 pub mod Wanted
-pub mod Places
+pub mod UnmadeRows
 pub mod PutRows
 pub mod AscendingUids
-pub mod Most
+pub mod MostRows
 pub mod ByUid
 pub mod RowDays
 pub mod InQuestion

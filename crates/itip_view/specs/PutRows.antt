@@ -6,12 +6,12 @@ use Rattle.std.specs.Option.{option_to_list}
 use Rattle.itip_items.specs.declared.item.Item.{Item}
 use Rattle.itip_state.specs.OfUid.{UidPart}
 use Rattle.itip_view.specs.ListText.{list_text}
-use Rattle.itip_view.specs.OfUid.{AreRowsOf}
-use Rattle.itip_view.specs.Places.{IsMade}
+use Rattle.itip_view.specs.RowsOfUid.{AreRowsOf}
+use Rattle.itip_view.specs.UnmadeRows.{IsMade}
 use Rattle.itip_view.specs.Showing.{AreRowsWhere}
 use Rattle.itip_view.specs.Wanted.{wants}
 use Rattle.itip_view.specs.declared.row.Row.{Row}
-use Rattle.itip_view.specs.declared.row_place.RowPlace.{RowPlace}
+use Rattle.itip_view.specs.declared.unmade_row.UnmadeRow.{UnmadeRow}
 use Rattle.itip_view.specs.declared.wanted.Wanted.{Wanted}
 use Rattle.itip_view.specs.declared.window.Window.{Window}
 
@@ -21,7 +21,7 @@ pub record IsPut (wanted : Wanted) (row : Option Row) (old new : List ℕ) (is_p
   pub text_is : new ≡ old ++ list_text (filter (wants wanted) (option_to_list row))
 
 -- the same for the row of a place
-pub record IsPlacePut (wanted : Wanted) (part : UidPart) (place : Option RowPlace) (old new : List ℕ) (is_put : Bool) : Type 0 where
+pub record IsPlacePut (wanted : Wanted) (part : UidPart) (place : Option UnmadeRow) (old new : List ℕ) (is_put : Bool) : Type 0 where
   pub row : Option Row
   pub made : IsMade part place row
   pub put : IsPut wanted row old new is_put

@@ -4,7 +4,7 @@ ghost use Rattle.std.specs.List.{list_any};
 ghost use Rattle.std.specs.Option.{option_copied};
 ghost use Rattle.itip_items.specs.declared.item.Item.{Item};
 ghost use Rattle.itip_view.specs.Answers.{Counts, NoneCounts, Decides, AreShown, partstat_in, shown_line};
-ghost use Rattle.itip_view.specs.OfUid.{asked_by, asked_of, in_turn, only, to_question};
+ghost use Rattle.itip_view.specs.RowsOfUid.{asked_by, asked_of, in_turn, only, to_question};
 ghost use Rattle.itip_view.specs.Wanted.{is_asked, is_some_asked};
 ghost use Rattle.itip_view.specs.declared.row.ShownAttendee.{ShownAttendee};
 

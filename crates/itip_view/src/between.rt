@@ -1,6 +1,6 @@
 //! What governs the occurrences of a to-do at which no instance item stands.
 ghost use Rattle.std.specs.Prelude.{IfOk};
-ghost use Rattle.itip_view.specs.OfUid.{IsWhole, AreOccurrencesOf, IsBetween};
+ghost use Rattle.itip_view.specs.RowsOfUid.{IsWhole, AreOccurrencesOf, IsBetween};
 ghost use Rattle.itip_view.specs.declared.window.Window.{Window};
 
 use crate::NoMemory;

@@ -4,7 +4,7 @@ ghost use Rattle.std.specs.Option.{option_copied};
 ghost use Rattle.itip_moment.specs.declared.moment.Moment.{Moment};
 ghost use Rattle.itip_view.specs.Answers.{AreShown};
 ghost use Rattle.itip_view.specs.InQuestion.{IsInQuestion, NoneInQuestion, IsRowFound, OccursAt};
-ghost use Rattle.itip_view.specs.OfUid.{asked_by};
+ghost use Rattle.itip_view.specs.RowsOfUid.{asked_by};
 ghost use Rattle.itip_view.specs.Standing.{Stands, NoneStands, Rules, NoneRules, IsLiveSeries};
 
 use crate::NoMemory;

@@ -3,7 +3,7 @@ ghost use Rattle.std.specs.Prelude.{◌↔◌, ℕ, List, Some, IfOk, IsTrue};
 ghost use Rattle.itip_items.specs.declared.item.Item.{Item};
 ghost use Rattle.itip_view.specs.OccurringWhole.{IsOccurringWhole, IsOccurringOf};
 ghost use Rattle.itip_view.specs.InQuestion.{OccursAt};
-ghost use Rattle.itip_view.specs.OfUid.{IsWhole};
+ghost use Rattle.itip_view.specs.RowsOfUid.{IsWhole};
 
 use crate::NoMemory;
 use crate::whole::{Whole, whole_of};

@@ -4,8 +4,8 @@ ghost use Rattle.std.specs.Option.{option_copied, option_map};
 ghost use Rattle.itip_recur.specs.ToDoShape.{IsShape};
 ghost use Rattle.itip_todo.specs.Properties.{Property};
 ghost use Rattle.itip_view.specs.Answers.{AreShown};
-ghost use Rattle.itip_view.specs.OfUid.{AreOccurrencesOf, ArePlaces, AreRowsOf, asked_by};
-ghost use Rattle.itip_view.specs.Places.{AreWanted, IsMade, IsPlaceAt, IsShownAt, IsWanted, governing_item, questions_of};
+ghost use Rattle.itip_view.specs.RowsOfUid.{AreOccurrencesOf, ArePlaces, AreRowsOf, asked_by};
+ghost use Rattle.itip_view.specs.UnmadeRows.{AreWanted, IsMade, IsPlaceAt, IsShownAt, IsWanted, governing_item, questions_of};
 ghost use Rattle.itip_view.specs.InUid.{HasWhole, HasBetween, HasItsRows, HasOccurrence, HasAll, IsViewOf};
 ghost use Rattle.itip_view.specs.InUid.{HasStanding, HasNoStanding, HasRuling, HasNoRuling, HasNoneAtStart, HasLiveSeries};
 ghost use Rattle.itip_view.specs.PutRows.{IsPut, IsPlacePut, ArePut};
@@ -20,9 +20,9 @@ use crate::dates::{day_of, instance_day};
 use crate::keyed_item::{AttendeeLine, KeyedItem};
 use crate::progress::progress_of;
 use crate::row::Row;
-use crate::row_place::{Governing, RowKind, RowPlace};
 use crate::row_text::write_row;
 use crate::standing::{is_live, standing_item, stands_beside};
+use crate::unmade_row::{Governing, RowKind, UnmadeRow};
 use crate::wanted::Wanted;
 use crate::whole::{Whole, occurrences, sorted_moments, whole_of};
 use crate::window::Window;
@@ -158,7 +158,7 @@ impl<'v, 'a> UidView<'v, 'a> {
     /// Appends the text of the row of a place if there is one and it is asked for; returns whether it did.
     fn put_place(
         &self,
-        place: &Option<RowPlace<'_>>,
+        place: &Option<UnmadeRow<'_>>,
         wanted: &Wanted<'_>,
         out: &mut Vec<u8>,
     ) -> Result<bool, NoMemory>
@@ -185,7 +185,7 @@ impl<'v, 'a> UidView<'v, 'a> {
     }
 
     /// The place of the row of the to-do as a whole, if it has one.
-    fn whole_place(&self) -> Option<RowPlace<'_>>
+    fn whole_place(&self) -> Option<UnmadeRow<'_>>
         requires { HasWhole self.now }
         ensures { IsPlaceAt self.now.items.now self.now.window None result }
     {
@@ -194,7 +194,7 @@ impl<'v, 'a> UidView<'v, 'a> {
         };
         match &whole.shape {
             Shape::Single => self.single_place(whole.item),
-            Shape::Opaque => Some(RowPlace {
+            Shape::Opaque => Some(UnmadeRow {
                 governing: Governing::Plain(whole.item),
                 kind: RowKind::Opaque,
             }),
@@ -203,7 +203,7 @@ impl<'v, 'a> UidView<'v, 'a> {
     }
 
     /// The place of the row of a to-do that doesn't recur, if it has one in the window.
-    fn single_place<'p>(&'p self, series: &'p Item) -> Option<RowPlace<'p>>
+    fn single_place<'p>(&'p self, series: &'p Item) -> Option<UnmadeRow<'p>>
         requires live { HasLiveSeries self.now series.now }
         requires single { IsShape series.now.todo Shape.Single }
         ensures { IsPlaceAt self.now.items.now self.now.window None result }
@@ -214,7 +214,7 @@ impl<'v, 'a> UidView<'v, 'a> {
         if self.is_replaced(series) {
             return None;
         }
-        Some(RowPlace {
+        Some(UnmadeRow {
             governing: Governing::Plain(series),
             kind: RowKind::Single,
         })
@@ -231,7 +231,7 @@ impl<'v, 'a> UidView<'v, 'a> {
     }
 
     /// The place of the row at a moment, if there is one: of the item that stands there, or of the occurrence.
-    fn place_at<'p>(&'p self, at: &'p Moment) -> Option<RowPlace<'p>>
+    fn place_at<'p>(&'p self, at: &'p Moment) -> Option<UnmadeRow<'p>>
         requires whole { HasWhole self.now }
         requires between { HasBetween self.now }
         requires occurs { HasNoStanding self.now at.now → HasOccurrence self.now at.now }
@@ -244,7 +244,7 @@ impl<'v, 'a> UidView<'v, 'a> {
     }
 
     /// The place of the row of an instance, if it is live and its day is in the window.
-    fn instance_place<'p>(&'p self, item: &'p Item, at: &'p Moment) -> Option<RowPlace<'p>>
+    fn instance_place<'p>(&'p self, item: &'p Item, at: &'p Moment) -> Option<UnmadeRow<'p>>
         requires { HasStanding self.now at.now item.now }
         ensures { IsPlaceAt self.now.items.now self.now.window (Some at.now) result }
     {
@@ -254,14 +254,14 @@ impl<'v, 'a> UidView<'v, 'a> {
         if !self.window.has(instance_day(at, &item.todo)) {
             return None;
         }
-        Some(RowPlace {
+        Some(UnmadeRow {
             governing: Governing::Plain(item),
             kind: RowKind::Instance(at),
         })
     }
 
     /// The place of the row of an occurrence at which no instance item stands, if it has one.
-    fn place_between<'p>(&'p self, at: &'p Moment) -> Option<RowPlace<'p>>
+    fn place_between<'p>(&'p self, at: &'p Moment) -> Option<UnmadeRow<'p>>
         requires whole { HasWhole self.now }
         requires between { HasBetween self.now }
         requires none { HasNoStanding self.now at.now }
@@ -283,7 +283,7 @@ impl<'v, 'a> UidView<'v, 'a> {
         series: &'p Item,
         range: &'p KeyedItem<'p>,
         at: &'p Moment,
-    ) -> Option<RowPlace<'p>>
+    ) -> Option<UnmadeRow<'p>>
         requires live { HasLiveSeries self.now series.now }
         requires none { HasNoStanding self.now at.now }
         requires rules { HasRuling self.now at.now range.now.item.now }
@@ -296,7 +296,7 @@ impl<'v, 'a> UidView<'v, 'a> {
         if !is_live(range.item.kind) {
             return None;
         }
-        Some(RowPlace {
+        Some(UnmadeRow {
             governing: Governing::Keyed(range),
             kind: RowKind::Ranged { at, id, series },
         })
@@ -307,7 +307,7 @@ impl<'v, 'a> UidView<'v, 'a> {
         &'p self,
         governing: &'p KeyedItem<'p>,
         at: &'p Moment,
-    ) -> Option<RowPlace<'p>>
+    ) -> Option<UnmadeRow<'p>>
         requires whole { HasWhole self.now }
         requires live { HasLiveSeries self.now governing.now.item.now }
         requires none { HasNoStanding self.now at.now }
@@ -322,7 +322,7 @@ impl<'v, 'a> UidView<'v, 'a> {
             Shape::Repeats(series) => series,
             Shape::Single | Shape::Opaque => return None,
         };
-        Some(RowPlace {
+        Some(UnmadeRow {
             governing: Governing::Keyed(governing),
             kind: RowKind::Occurrence {
                 at,
@@ -332,7 +332,7 @@ impl<'v, 'a> UidView<'v, 'a> {
     }
 
     /// The row of a place, if there is one.
-    fn made(&self, place: &Option<RowPlace<'_>>) -> Result<Option<Row>, NoMemory>
+    fn made(&self, place: &Option<UnmadeRow<'_>>) -> Result<Option<Row>, NoMemory>
         ensures { IfOk result (IsMade self.now.items.now place.now) }
     {
         let Some(place) = place else {
@@ -342,7 +342,7 @@ impl<'v, 'a> UidView<'v, 'a> {
         Ok(Some(row))
     }
 
-    fn row_of(&self, place: &RowPlace<'_>) -> Result<Row, NoMemory>
+    fn row_of(&self, place: &UnmadeRow<'_>) -> Result<Row, NoMemory>
         ensures { IfOk result (IsShownAt self.now.items.now place.now) }
     {
         match place.governing {
@@ -355,7 +355,7 @@ impl<'v, 'a> UidView<'v, 'a> {
     }
 
     /// The row of a place; `lines` are the ATTENDEE lines of the item that governs it, with their keys.
-    fn row_with(&self, place: &RowPlace<'_>, lines: &[AttendeeLine<'_>]) -> Result<Row, NoMemory>
+    fn row_with(&self, place: &UnmadeRow<'_>, lines: &[AttendeeLine<'_>]) -> Result<Row, NoMemory>
         requires { map (λ line. line.line.now) lines.now ≡ (governing_item place.now.governing).todo.attendees }
         ensures { IfOk result (IsShownAt self.now.items.now place.now) }
     {
@@ -388,7 +388,11 @@ impl<'v, 'a> UidView<'v, 'a> {
     }
 
     /// Whether a place has a row that is asked for.
-    fn is_wanted(&self, place: &Option<RowPlace<'_>>, wanted: &Wanted<'_>) -> Result<bool, NoMemory>
+    fn is_wanted(
+        &self,
+        place: &Option<UnmadeRow<'_>>,
+        wanted: &Wanted<'_>,
+    ) -> Result<bool, NoMemory>
         ensures { IfOk result (IsWanted wanted.now self.now.items.now place.now) }
     {
         let Some(place) = place else {
@@ -403,7 +407,7 @@ impl<'v, 'a> UidView<'v, 'a> {
 
     /// Whether the row of a place shows the attendee who is named, with something left to do if only open rows are asked for; true if
     /// none is named.
-    fn shows_named(&self, place: &RowPlace<'_>, wanted: &Wanted<'_>) -> Result<bool, NoMemory>
+    fn shows_named(&self, place: &UnmadeRow<'_>, wanted: &Wanted<'_>) -> Result<bool, NoMemory>
         ensures { IfOk result (λ shows. (shown : List ShownAttendee)
             → AreShown self.now.items.now.items (asked_by self.now.items.now.uid
             (questions_of (governing_item place.now.governing) place.now.kind))

@@ -1,7 +1,7 @@
 //! Which item stands at an instance.
 ghost use Rattle.std.specs.Prelude.{◌≡◌, ◌↔◌, IsTrue, MatchOption};
 ghost use Rattle.std.specs.Option.{option_copied};
-ghost use Rattle.itip_view.specs.OfUid.{StandsBesideOf};
+ghost use Rattle.itip_view.specs.RowsOfUid.{StandsBesideOf};
 ghost use Rattle.itip_view.specs.Standing.{if_live, is_live, Stands, NoneStands};
 
 use itip_items::{Item, Kind};

@@ -1,6 +1,6 @@
 //! The rows of one UID that are asked for.
 ghost use Rattle.std.specs.Prelude.{IfOk};
-ghost use Rattle.itip_view.specs.Most.{HasRows};
+ghost use Rattle.itip_view.specs.MostRows.{HasRows};
 ghost use Rattle.itip_view.specs.PutRows.{PutsRows};
 ghost use Rattle.itip_view.specs.Showing.{AreRowsWhere, IsOf};
 ghost use Rattle.itip_view.specs.Wanting.{Wants};

@@ -5,7 +5,7 @@ ghost use Rattle.std.specs.List.Sorted.{IsStrictlySortedBy};
 ghost use Rattle.itip_items.specs.declared.item.Item.{Item};
 ghost use Rattle.itip_moment.specs.declared.moment.Moment.{Moment};
 ghost use Rattle.itip_moment.specs.Order.{moment_cmp};
-ghost use Rattle.itip_view.specs.OfUid.{IsWhole, AreOccurrencesOf};
+ghost use Rattle.itip_view.specs.RowsOfUid.{IsWhole, AreOccurrencesOf};
 
 use crate::NoMemory;
 use crate::standing::is_live;

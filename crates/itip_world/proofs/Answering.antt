@@ -8,7 +8,8 @@ use Rattle.itip_view.specs.Rows.{AreTooMany}
 use Rattle.itip_view.specs.Showing.{Shows, AreTooManyWhere}
 use Rattle.itip_view.proofs.OfKept.{rows_of_kept, too_many_of_kept, rows_where_of_kept, many_where_of_kept}
 use Rattle.itip_report.specs.Named.{IsReportOf, IsOfRows}
-use Rattle.itip_report.specs.Organizing.{IsResendOf, IsNext}
+use Rattle.itip_report.specs.Resending.{IsResendOf}
+use Rattle.itip_report.specs.NextSequence.{IsNext}
 use Rattle.itip_report.specs.declared.report_name.ReportName.{ReportName}
 use Rattle.itip_report.proofs.NamedReports.{report_of_kept}
 use Rattle.itip_report.proofs.OfKept.{resend_of_kept, next_of_kept}

@@ -17,7 +17,8 @@ use Rattle.itip_view.proofs.OfKept.{row_of_same}
 use Rattle.itip_view.specs.Showing.{Shows, AreRowsWhere, AreTooManyWhere}
 use Rattle.itip_view.proofs.OneList.{one_view, text_or_too_many, one_where, few_or_too_many}
 use Rattle.itip_report.specs.Named.{IsReportOf, IsOfRows}
-use Rattle.itip_report.specs.Organizing.{IsResendOf, IsNext}
+use Rattle.itip_report.specs.Resending.{IsResendOf}
+use Rattle.itip_report.specs.NextSequence.{IsNext}
 use Rattle.itip_report.specs.declared.report_name.ReportName.{ReportName}
 use Rattle.itip_report.proofs.NamedReports.{report_alike, one_named, named_or_too_many}
 use Rattle.itip_report.proofs.OfKept.{resend_alike, next_alike}

@@ -4,7 +4,8 @@ use Rattle.std.specs.Str.{IsUtf8}
 use Rattle.itip_items.specs.KeyParts.{uid_of}
 use Rattle.itip_items.specs.declared.item.Item.{Item}
 use Rattle.itip_items.proofs.Uids.{uid_of_item}
-use Rattle.itip_report.specs.Organizing.{IsResendOf, IsNext}
+use Rattle.itip_report.specs.Resending.{IsResendOf}
+use Rattle.itip_report.specs.NextSequence.{IsNext}
 
 -- the line of its UID is a lawful one
 uid_utf8 : (item : Item) → IsUtf8 (uid_of item.key)

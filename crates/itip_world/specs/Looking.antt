@@ -18,7 +18,8 @@ use Rattle.itip_desk.specs.declared.refusal.Refusal.TheVariants.{Message, TicksS
 use Rattle.itip_desk.specs.declared.refusal.Refusal.TheVariants.{LongScript, LongDelta, File}
 use Rattle.itip_desk.specs.declared.refusal.Refusal.{Refusal}
 use Rattle.itip_report.specs.Named.{IsReportOf, IsOfRows}
-use Rattle.itip_report.specs.Organizing.{IsResendOf, IsNext}
+use Rattle.itip_report.specs.Resending.{IsResendOf}
+use Rattle.itip_report.specs.NextSequence.{IsNext}
 use Rattle.itip_report.specs.declared.report_name.ReportName.{ReportName}
 use Rattle.itip_script.specs.Orders.{Order, takes, lists, lists_for, posts, arrives, reports, resends, asks_next, counts, malformed}
 use Rattle.itip_streams.specs.Written.{AppendsFront, MovesOut}

@@ -22,7 +22,8 @@ use Rattle.itip_world.specs.declared.event.Event.TheVariants.{Deliver, Post, Arr
 use Rattle.itip_world.specs.declared.event.Outcome.{Outcome}
 use Rattle.itip_world.specs.declared.event.Outcome.TheVariants.{Heard, Posted, Refused}
 use Rattle.itip_report.specs.Named.{IsReportOf, IsOfRows}
-use Rattle.itip_report.specs.Organizing.{IsResendOf, IsNext}
+use Rattle.itip_report.specs.Resending.{IsResendOf}
+use Rattle.itip_report.specs.NextSequence.{IsNext}
 use Rattle.itip_report.specs.declared.report_name.ReportName.{ReportName}
 use Rattle.itip_world.specs.declared.answer.Answer.{Answer as Given}
 use Rattle.itip_world.specs.declared.answer.Answer.TheVariants as given

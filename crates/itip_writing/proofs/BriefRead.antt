@@ -25,7 +25,7 @@ use Rattle.itip_todo.proofs.Segments.{all_parts}
 use Rattle.itip_items.specs.Given.{AreItemsOf}
 use Rattle.itip_items.specs.Items.{drafts}
 use Rattle.itip_items.specs.KeyParts.{uid_of}
-use Rattle.itip_items.specs.Needs.{Suits}
+use Rattle.itip_items.specs.MethodNeeds.{Suits}
 use Rattle.itip_items.specs.declared.item.Item.{Item}
 use Rattle.itip_items.specs.declared.kind.Kind.{Kind}
 use Rattle.itip_items.specs.declared.kind.Kind.TheVariants as kind

@@ -8,7 +8,7 @@ use Rattle.itip_items.specs.declared.item.Item.{Item}
 use Rattle.itip_items.specs.declared.key.Key.{Key}
 use Rattle.itip_state.proofs.Members.{none_in, cons_cases}
 use Rattle.itip_view.specs.InQuestion.{IsInQuestion, NoneInQuestion}
-use Rattle.itip_report.specs.Organizing.{IsNext}
+use Rattle.itip_report.specs.NextSequence.{IsNext}
 use Rattle.itip_writing.specs.Cancelling.{AreEndings, CannotCancel, CannotCancelOnward, IsCancelOf, IsOnwardOf, IsUnread, cancelled}
 use Rattle.itip_writing.specs.Cancelling.{cancelled_key, ended_keys, notice}
 use Rattle.itip_writing.specs.Causes.{IfCause, IfLate, IfNothing, IfOvertaken, IfUnread}

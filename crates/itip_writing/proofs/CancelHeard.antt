@@ -23,7 +23,7 @@ use Rattle.itip_view.specs.Standing.{is_live, IsLive, HaveOneForm, Reaches, Rule
 use Rattle.itip_view.specs.Standing.{IsLiveInstance}
 use Rattle.itip_view.specs.declared.row.Row.{Row}
 use Rattle.itip_view.specs.declared.window.Window.{Window}
-use Rattle.itip_report.specs.Organizing.{IsNext}
+use Rattle.itip_report.specs.NextSequence.{IsNext}
 use Rattle.itip_writing.specs.Cancelling.{Ends}
 use Rattle.itip_writing.proofs.RequestStands.{IsTask, task_below}
 

@@ -28,7 +28,7 @@ use Rattle.itip_todo.proofs.Segments.{all_parts}
 use Rattle.itip_items.specs.Given.{AreItemsOf}
 use Rattle.itip_items.specs.Items.{drafts}
 use Rattle.itip_items.specs.KeyParts.{instance_of, uid_of}
-use Rattle.itip_items.specs.Needs.{Suits, removes, when}
+use Rattle.itip_items.specs.MethodNeeds.{Suits, removes, when}
 use Rattle.itip_items.specs.declared.error.MethodCause.TheVariants as cause
 use Rattle.itip_items.specs.declared.item.Item.{Item}
 use Rattle.itip_items.specs.declared.kind.Method.TheVariants as method

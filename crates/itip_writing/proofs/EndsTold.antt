@@ -15,7 +15,7 @@ use Rattle.itip_items.specs.declared.item.Item.{Item}
 use Rattle.itip_items.specs.declared.key.Key.{Key}
 use Rattle.itip_items.specs.declared.key.Key.TheVariants.{Series, Instance, Range, Answer, Refresh}
 use Rattle.itip_state.specs.Kept.{AreOf, AscendKeys}
-use Rattle.itip_view.specs.OfUid.{IsSeriesItem, StandsBesideOf}
+use Rattle.itip_view.specs.RowsOfUid.{IsSeriesItem, StandsBesideOf}
 use Rattle.itip_view.specs.Standing.{HaveOneForm, IsLive}
 use Rattle.itip_report.specs.Reports.{IsStanding}
 use Rattle.itip_report.proofs.Mapped.{map_both}

@@ -13,7 +13,7 @@ use Rattle.itip_message.specs.Message.{ReadsMessage}
 use Rattle.itip_state.specs.Kept.{AreKept}
 use Rattle.itip_view.specs.declared.row.Row.{Row}
 use Rattle.itip_view.specs.declared.window.Window.{Window}
-use Rattle.itip_report.specs.Organizing.{IsResendOf}
+use Rattle.itip_report.specs.Resending.{IsResendOf}
 use Rattle.itip_report.specs.Reports.{IsWanted}
 use Rattle.itip_report.proofs.OfKept.{resend_of_kept, resent_of_kept}
 use Rattle.itip_writing.specs.Causes.{IfNothing}

@@ -19,7 +19,7 @@ use Rattle.itip_todo.specs.Written.{Content, content_of, moment_line, plain, pro
 use Rattle.itip_todo.specs.declared.property_name.PropertyName.TheVariants as name
 use Rattle.itip_todo.proofs.Segments.{AllParts, all_parts, all_optional, all_map, base_on}
 use Rattle.itip_items.specs.Items.{bare, method_text}
-use Rattle.itip_items.specs.Needs.{is_property}
+use Rattle.itip_items.specs.MethodNeeds.{is_property}
 use Rattle.itip_items.specs.declared.kind.Method.{Method}
 use Rattle.itip_items.specs.declared.kind.Method.TheVariants as method
 use Rattle.itip_message.specs.Frame.{depth_limit, frame, place, with_front, nested, opening, property, begun, todos, todos_from}

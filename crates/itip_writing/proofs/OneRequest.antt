@@ -12,7 +12,7 @@ use Rattle.itip_message.specs.declared.error.MessageRefusal.{MessageRefusal}
 use Rattle.itip_message.proofs.OneMessage.{message_apart, one_cause}
 use Rattle.itip_state.specs.Kept.{AreKept}
 use Rattle.itip_state.proofs.Members.{none_in, cons_cases}
-use Rattle.itip_report.specs.Organizing.{IsNext}
+use Rattle.itip_report.specs.NextSequence.{IsNext}
 use Rattle.itip_report.proofs.OfKept.{next_of_kept}
 use Rattle.itip_report.proofs.OneReport.{one_next}
 use Rattle.itip_writing.specs.Requesting.{AreRequested, CannotRequest, HasNoSequence, HasTwins, HaveSequences, IsRefusedRequest}

@@ -14,7 +14,7 @@ use Rattle.itip_items.specs.Given.{AreItemsOf}
 use Rattle.itip_items.specs.Items.{ItemDraft, add_drafts, attendee_draft, drafts, drafts_of, effective_sequence, instance_key, kind_of}
 use Rattle.itip_items.specs.Items.{method_of, task_draft}
 use Rattle.itip_items.specs.KeyParts.{instance_of, uid_of}
-use Rattle.itip_items.specs.Later.{IsLater}
+use Rattle.itip_items.specs.RevisionOrder.{IsLater}
 use Rattle.itip_items.specs.declared.item.Item.{Item}
 use Rattle.itip_items.specs.declared.key.Key.{Key}
 use Rattle.itip_items.specs.declared.key.Key.TheVariants as key

@@ -17,7 +17,7 @@ use Rattle.itip_moment.specs.declared.stamp.Stamp.{Stamp}
 use Rattle.itip_todo.specs.Table.{attendee_key}
 use Rattle.itip_todo.specs.Properties.{Property}
 use Rattle.itip_items.specs.KeyParts.{uid_of}
-use Rattle.itip_items.specs.Later.{IsLater}
+use Rattle.itip_items.specs.RevisionOrder.{IsLater}
 use Rattle.itip_items.specs.declared.item.Item.{Item}
 use Rattle.itip_items.specs.declared.key.Key.{Key}
 use Rattle.itip_items.specs.declared.key.Key.TheVariants as key
@@ -35,7 +35,7 @@ use Rattle.itip_view.specs.Standing.{IsLiveSeries}
 use Rattle.itip_view.specs.declared.row.Row.{Row}
 use Rattle.itip_view.specs.declared.row.ShownAttendee.{ShownAttendee}
 use Rattle.itip_view.specs.declared.window.Window.{Window}
-use Rattle.itip_report.specs.Organizing.{IsNext}
+use Rattle.itip_report.specs.NextSequence.{IsNext}
 use Rattle.itip_writing.specs.Removing.{IsOvertaken}
 use Rattle.itip_writing.specs.Replying.{AsksWhole, IsUnansweredOccurrence}
 use Rattle.itip_writing.specs.Stamping.{IsEqualRevision, IsStampAfter}

@@ -17,7 +17,7 @@ use Rattle.itip_todo.specs.Properties.{Property}
 use Rattle.itip_items.specs.Given.{AreItemsOf}
 use Rattle.itip_items.specs.Items.{drafts}
 use Rattle.itip_items.specs.KeyParts.{uid_of}
-use Rattle.itip_items.specs.Later.{IsLater}
+use Rattle.itip_items.specs.RevisionOrder.{IsLater}
 use Rattle.itip_items.specs.declared.item.Item.{Item}
 use Rattle.itip_items.specs.declared.key.Key.{Key}
 use Rattle.itip_items.specs.declared.key.Key.TheVariants as key

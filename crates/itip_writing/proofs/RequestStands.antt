@@ -16,8 +16,8 @@ use Rattle.itip_items.specs.Given.{IsItemOf, AreItemsOf}
 use Rattle.itip_items.specs.Items.{ItemDraft, drafts_of, task_draft, add_drafts, attendee_draft, effective_sequence, kind_of, method_of}
 use Rattle.itip_items.specs.Items.{drafts, raised}
 use Rattle.itip_items.specs.KeyParts.{uid_of}
-use Rattle.itip_items.specs.Later.{IsLater}
-use Rattle.itip_items.specs.Needs.{Suits, is_property}
+use Rattle.itip_items.specs.RevisionOrder.{IsLater}
+use Rattle.itip_items.specs.MethodNeeds.{Suits, is_property}
 use Rattle.itip_items.specs.declared.item.Item.{Item}
 use Rattle.itip_items.specs.declared.key.Key.{Key}
 use Rattle.itip_items.specs.declared.key.Key.TheVariants as key
@@ -34,7 +34,7 @@ use Rattle.itip_state.proofs.Keeping.{eff_up, series_kept}
 use Rattle.itip_state.proofs.Members.{none_in, cons_cases, cons_first, cons_later}
 use Rattle.itip_state.proofs.OfKey.{head_pair, tail_pairs}
 use Rattle.itip_view.specs.Standing.{is_live, IsLive, IsCancelled, StandsBeside}
-use Rattle.itip_report.specs.Organizing.{IsNext}
+use Rattle.itip_report.specs.NextSequence.{IsNext}
 use Rattle.itip_report.proofs.OneReport.{one_next}
 use Rattle.itip_writing.specs.Requesting.{AreApart, AreRequested, IsRequest, IsRequested, StandsLive, key_of, requested}
 use Rattle.itip_writing.proofs.SentRead.{sent_read}

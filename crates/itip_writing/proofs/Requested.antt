@@ -21,7 +21,7 @@ use Rattle.itip_items.specs.declared.item.Item.{Item}
 use Rattle.itip_items.specs.declared.kind.Method.TheVariants as method
 use Rattle.itip_items.proofs.Lawfulness.{base_lawful, canonical_small}
 use Rattle.itip_message.specs.Message.{RefusesMessage}
-use Rattle.itip_report.specs.Organizing.{IsNext, last_sequence}
+use Rattle.itip_report.specs.NextSequence.{IsNext, last_sequence}
 use Rattle.itip_writing.specs.Causes.{IfSpent, IfUnread}
 use Rattle.itip_writing.specs.Requesting.{AreApart, AreNext, AreRequested, CannotRequest, HaveSequences, IsRequestText}
 use Rattle.itip_writing.specs.Requesting.{base_above, requested}

@@ -25,7 +25,7 @@ use Rattle.itip_todo.proofs.Segments.{base_on}
 use Rattle.itip_todo.proofs.WritingLaws.{read_again}
 use Rattle.itip_items.specs.Given.{AreItemsOf}
 use Rattle.itip_items.specs.Items.{ItemDraft, bare, drafts, method_text}
-use Rattle.itip_items.specs.Needs.{Suits, is_property}
+use Rattle.itip_items.specs.MethodNeeds.{Suits, is_property}
 use Rattle.itip_items.specs.declared.item.Item.{Item}
 use Rattle.itip_items.specs.declared.kind.Method.{Method}
 use Rattle.itip_items.specs.declared.kind.Method.TheVariants as method

@@ -19,7 +19,7 @@ use Rattle.itip_view.specs.Standing.{is_live, StandsBeside, StandsUnder, NoneSta
 use Rattle.itip_view.specs.Standing.{IsLiveInstance, GovernsBetween}
 use Rattle.itip_view.specs.declared.row.ShownAttendee.{ShownAttendee}
 use Rattle.itip_view.proofs.Sequences.{series_eff, answer_eff}
-use Rattle.itip_report.specs.Organizing.{IsNext, last_sequence}
+use Rattle.itip_report.specs.NextSequence.{IsNext, last_sequence}
 use Rattle.itip_writing.specs.Stamping.{IsEqualRevision, IsStampAfter, IsTimeSpent}
 
 -- what is kept of a part that has all items of a UID, and what is kept of what is kept, is the same of the UID

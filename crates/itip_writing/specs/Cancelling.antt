@@ -24,7 +24,7 @@ use Rattle.itip_message.specs.Message.{RefusesMessage}
 use Rattle.itip_message.specs.declared.error.MessageRefusal.{MessageRefusal}
 use Rattle.itip_view.specs.InQuestion.{IsInQuestion, NoneInQuestion}
 use Rattle.itip_view.specs.Standing.{IsLive, HaveOneForm, Reaches, StandsFrom, IsLiveInstance}
-use Rattle.itip_report.specs.Organizing.{IsNext}
+use Rattle.itip_report.specs.NextSequence.{IsNext}
 use Rattle.itip_writing.specs.Causes.{IfCause}
 use Rattle.itip_writing.specs.Sent.{IsReadable, sent_octets}
 use Rattle.itip_writing.specs.Stamping.{IsEqualRevision, IsStampAfter}

@@ -5,7 +5,7 @@ use Rattle.std.specs.String.{string_bytes}
 use Rattle.itip_moment.specs.declared.stamp.Stamp.{Stamp}
 use Rattle.itip_todo.specs.declared.property_name.PropertyName.{PropertyName}
 use Rattle.itip_items.specs.declared.item.Item.{Item}
-use Rattle.itip_report.specs.Organizing.{IsResend, IsResendOf}
+use Rattle.itip_report.specs.Resending.{IsResend, IsResendOf}
 use Rattle.itip_writing.specs.Cancelling.{IsCancelling, CannotCancel, IsCancellingOnward, CannotCancelOnward, IsOnwardLacking}
 use Rattle.itip_writing.specs.Causes.{IfNothing}
 use Rattle.itip_writing.specs.Lacking.{IsResendLacking, lacking_in_request}

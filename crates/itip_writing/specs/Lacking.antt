@@ -3,7 +3,7 @@ use Rattle.std.specs.Prelude.{◌≡◌, ℕ, Bool, false, cond, ◌==◌, List,
 use Rattle.std.specs.Option.{is_none}
 use Rattle.std.specs.List.{filter, list_any}
 use Rattle.itip_items.specs.declared.item.Item.{Item}
-use Rattle.itip_report.specs.Organizing.{AreResent}
+use Rattle.itip_report.specs.Resending.{AreResent}
 use Rattle.itip_todo.specs.Parts.{Parts}
 use Rattle.itip_todo.specs.PartsOf.{parts_of}
 use Rattle.itip_todo.specs.Properties.{Property}

@@ -18,7 +18,7 @@ use Rattle.itip_state.specs.Kept.{IsKept}
 use Rattle.itip_view.specs.Answers.{answer_key}
 use Rattle.itip_view.specs.InQuestion.{NoneInQuestion, ShowsInQuestion}
 use Rattle.itip_view.specs.declared.row.ShownAttendee.{ShownAttendee}
-use Rattle.itip_report.specs.Organizing.{IsNext}
+use Rattle.itip_report.specs.NextSequence.{IsNext}
 use Rattle.itip_writing.specs.Cancelling.{notice, IsSent, IsUnread}
 use Rattle.itip_writing.specs.Causes.{IfCause}
 use Rattle.itip_writing.specs.Stamping.{IsEqualRevision, IsStampAfter, IsTimeSpent, later_stamp}

@@ -22,7 +22,7 @@ use Rattle.itip_items.specs.declared.kind.Method.TheVariants as method
 use Rattle.itip_message.specs.Message.{RefusesMessage}
 use Rattle.itip_message.specs.declared.error.MessageRefusal.{MessageRefusal}
 use Rattle.itip_view.specs.Standing.{IsLive, IsLiveSeries, IsLiveInstance, StandsFrom}
-use Rattle.itip_report.specs.Organizing.{IsNext}
+use Rattle.itip_report.specs.NextSequence.{IsNext}
 use Rattle.itip_writing.specs.Causes.{IfCause}
 use Rattle.itip_writing.specs.Sent.{IsReadable, sent_octets}
 use Rattle.itip_writing.specs.declared.error.WritingError.{WritingError}

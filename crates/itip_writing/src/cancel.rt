@@ -1,7 +1,7 @@
 //! Cancelling a to-do or an instance of it.
 ghost use Rattle.std.specs.Prelude.{◌≡◌, ◌∷◌, [], IfOk, IfErr};
 ghost use Rattle.std.specs.Option.{option_copied};
-ghost use Rattle.itip_report.specs.Organizing.{IsNext};
+ghost use Rattle.itip_report.specs.NextSequence.{IsNext};
 ghost use Rattle.itip_view.specs.InQuestion.{IsInQuestion, NoneInQuestion};
 ghost use Rattle.itip_writing.specs.Cancelling.{IsCancelling, CannotCancel, IsSent, IsUnread, cancelled};
 ghost use Rattle.itip_writing.specs.Causes.{IfNothing, IfUnread};
@@ -13,7 +13,7 @@ use crate::errand::Message;
 use crate::error::WritingError;
 use crate::lacking::lacking_organizer;
 use crate::message::{readable, write_alone};
-use crate::reply::Revision;
+use crate::sent_revision::SentRevision;
 use itip_items::{Item, Method};
 use itip_moment::{Moment, Stamp};
 use itip_report::next_seq;
@@ -62,7 +62,7 @@ fn cancellation_of(
         return Err(WritingError::NoSequenceLeft);
     };
     // Each item of the key has a smaller sequence.
-    let revision = Revision {
+    let revision = SentRevision {
         sequence,
         stamp: at,
     };
@@ -96,7 +96,7 @@ pub(crate) fn cancelled<'a>(
     item: &'a Item,
     id: Option<&'a Moment>,
     range: bool,
-    revision: Revision,
+    revision: SentRevision,
 ) -> BriefTodo<'a>
     ensures { brief_parts result ≡ cancelled uid.now item.now (option_copied id.entry) range revision.sequence revision.stamp }
 {

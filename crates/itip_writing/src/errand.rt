@@ -1,6 +1,6 @@
 //! What an office asks for, and the message that is written for it.
 ghost use Rattle.std.specs.Prelude.{IfOk, IfErr, None};
-ghost use Rattle.itip_report.specs.Organizing.{IsResend, IsResendOf};
+ghost use Rattle.itip_report.specs.Resending.{IsResend, IsResendOf};
 ghost use Rattle.itip_writing.specs.Causes.{IfNothing};
 ghost use Rattle.itip_writing.specs.Errands.{CannotBeWritten, IsWritten, LacksOf};
 ghost use Rattle.itip_writing.specs.Lacking.{IsResendLacking};

@@ -9,7 +9,7 @@ ghost use Rattle.itip_todo.specs.declared.property_name.PropertyName.{PropertyNa
 ghost use Rattle.itip_todo.specs.declared.todo.Todo.{Todo};
 ghost use Rattle.itip_items.specs.Given.{AreItemsOf};
 ghost use Rattle.itip_items.specs.Items.{drafts};
-ghost use Rattle.itip_items.specs.Needs.{Suits};
+ghost use Rattle.itip_items.specs.MethodNeeds.{Suits};
 ghost use Rattle.itip_items.specs.declared.item.Item.{Item};
 ghost use Rattle.itip_items.specs.declared.kind.Method.TheVariants as method;
 ghost use Rattle.itip_items.specs.declared.kind.Method.{Method};

@@ -2,10 +2,10 @@
 ghost use Rattle.std.specs.Prelude.{◌≡◌, ◌↔◌, ◌∷◌, [], IsTrue, IfOk, IfErr, Some, map};
 ghost use Rattle.std.specs.List.{list_any};
 ghost use Rattle.std.specs.Option.{is_none, option_copied};
-ghost use Rattle.itip_view.specs.OfUid.{StandsBesideOf};
+ghost use Rattle.itip_view.specs.RowsOfUid.{StandsBesideOf};
 ghost use Rattle.itip_view.specs.Standing.{IsLive};
 ghost use Rattle.itip_report.specs.Lines.{AreReported};
-ghost use Rattle.itip_report.specs.Organizing.{IsNext};
+ghost use Rattle.itip_report.specs.NextSequence.{IsNext};
 ghost use Rattle.itip_report.specs.Sought.{IsAmong};
 ghost use Rattle.itip_writing.specs.Cancelling.{IsCancellingOnward, CannotCancelOnward, IsOnwardLacking, IsAfter, IsSent, IsUnread};
 ghost use Rattle.itip_writing.specs.Cancelling.{lacking_among};
@@ -21,7 +21,7 @@ use crate::errand::Message;
 use crate::error::WritingError;
 use crate::lacking::lacking_organizer;
 use crate::message::{readable, write_briefs};
-use crate::reply::Revision;
+use crate::sent_revision::SentRevision;
 use itip_items::{Item, Key, Method};
 use itip_moment::{Moment, Stamp};
 use itip_report::{by_place, next_seq};
@@ -35,7 +35,7 @@ use std::alloc::Global;
 struct Onward<'a> {
     uid: &'a Uid,
     from: &'a Moment,
-    revision: Revision,
+    revision: SentRevision,
 }
 
 /// The message that cancels an instance of a to-do and all after it, written at the moment `at` (RFC 5546 3.4.5, RFC 5545 3.2.13).
@@ -81,7 +81,7 @@ fn onward_of(
         return Err(WritingError::NoSequenceLeft);
     };
     // Each item of the keys has a smaller sequence.
-    let revision = Revision {
+    let revision = SentRevision {
         sequence,
         stamp: at,
     };

@@ -3,7 +3,7 @@ ghost use Rattle.std.specs.Prelude.{◌≡◌, ◌↔◌, ◌∷◌, [], IsTrue,
 ghost use Rattle.std.specs.Option.{option_copied};
 ghost use Rattle.std.specs.String.{string_bytes};
 ghost use Rattle.itip_items.specs.declared.key.Key.TheVariants as keys;
-ghost use Rattle.itip_report.specs.Organizing.{IsNext};
+ghost use Rattle.itip_report.specs.NextSequence.{IsNext};
 ghost use Rattle.itip_view.specs.InQuestion.{NoneInQuestion};
 ghost use Rattle.itip_writing.specs.Cancelling.{IsSent, IsUnread, notice};
 ghost use Rattle.itip_writing.specs.Causes.{IfCause, IfOvertaken, IfUnread};
@@ -20,7 +20,7 @@ use crate::cancel::sent_alone;
 use crate::errand::Message;
 use crate::error::WritingError;
 use crate::lacking::lacking_organizer;
-use crate::reply::Revision;
+use crate::sent_revision::SentRevision;
 use crate::stamping::{later_stamp, stamp_after};
 use itip_items::Item;
 use itip_moment::{Moment, Stamp};
@@ -82,7 +82,7 @@ fn removal_of(
     let lines = lines_of(alloc, item.todo.attendees.as_slice(), attendees)?;
     let latest = latest_answer(alloc, items, id, &lines, sequence)?;
     let stamp = stamp_after(at, latest)?;
-    let revision = Revision { sequence, stamp };
+    let revision = SentRevision { sequence, stamp };
     let octets = removal_octets(alloc, items.uid(), item, id, &lines, revision)?;
     let lacking = lacking_organizer(alloc, &item.todo.organizer)?;
     Ok(Message { octets, lacking })
@@ -232,7 +232,7 @@ fn removal_octets(
     item: &Item,
     id: Option<&Moment>,
     lines: &[Property],
-    revision: Revision,
+    revision: SentRevision,
 ) -> Result<Vec<u8>, WritingError>
     ensures sent { IfOk result (λ octets. IsSent (notice uid.now item.now (option_copied id.entry) false None lines.now
         revision.sequence revision.stamp ∷ []) octets.items) }

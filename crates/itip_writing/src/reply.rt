@@ -16,6 +16,7 @@ use crate::errand::Message;
 use crate::error::WritingError;
 use crate::lacking::lacking_organizer;
 use crate::message::{readable, write_alone};
+use crate::sent_revision::SentRevision;
 use crate::stamping::{kept_item, latest_equal, stamp_after};
 use itip_items::{Item, Key, Method};
 use itip_lines::{Params, Text};
@@ -23,13 +24,6 @@ use itip_moment::{Moment, Stamp};
 use itip_state::{ItemsOfUid, State};
 use itip_todo::{PartStat, Property, Uid};
 use std::alloc::Global;
-
-/// SEQUENCE and DTSTAMP.
-#[derive(Clone, Copy, Debug, Drop)]
-pub(crate) struct Revision {
-    pub sequence: u32,
-    pub stamp: Stamp,
-}
 
 /// The answer of an attendee to a to-do as a whole or to an instance of it, written at the moment `at` (RFC 5546 3.4.3).
 ///
@@ -86,7 +80,7 @@ fn answer_revision(
     id: Option<&Moment>,
     asked: &AskedAttendee<'_>,
     at: Stamp,
-) -> Result<Revision, WritingError>
+) -> Result<SentRevision, WritingError>
     ensures revision { IfOk result (λ revision. IsAnswerRevision items.now.items
         (answer_key items.now.uid (option_copied id.entry) asked.now.address) asked.now.item.now.own at revision.sequence revision.stamp) }
     ensures late { IfErr result (IfLate (IsAnswerLate items.now.items
@@ -95,7 +89,7 @@ fn answer_revision(
     let key = answer_key(items.uid(), id, &asked.key)?;
     let sequence = no_less(asked.item.own, kept_item(items, &key));
     let stamp = stamp_after(at, latest_equal(items, &key, sequence))?;
-    Ok(Revision { sequence, stamp })
+    Ok(SentRevision { sequence, stamp })
 }
 
 /// The key of an attendee's answer.
@@ -134,7 +128,7 @@ fn reply_octets(
     uid: &Uid,
     id: Option<&Moment>,
     asked: &AskedAttendee<'_>,
-    revision: Revision,
+    revision: SentRevision,
     answer: &Answer<'_>,
 ) -> Result<Vec<u8>, NoMemory>
     ensures { IfOk result (λ octets. octets.items ≡ sent_octets methods.Reply

@@ -5,7 +5,7 @@ ghost use Rattle.std.specs.Cmp.Lexicographic.{slice_cmp};
 ghost use Rattle.std.specs.Ordering.{nat_cmp};
 ghost use Rattle.itip_todo.specs.PartsOf.{parts_of};
 ghost use Rattle.itip_todo.specs.declared.todo.Todo.{Todo};
-ghost use Rattle.itip_report.specs.Organizing.{IsNext};
+ghost use Rattle.itip_report.specs.NextSequence.{IsNext};
 ghost use Rattle.itip_writing.specs.Causes.{IfSpent};
 ghost use Rattle.itip_writing.specs.Lacking.{lacking_in_request};
 ghost use Rattle.itip_writing.specs.Requesting.{IsRequest, CannotRequest, AreRequested, AreNext};

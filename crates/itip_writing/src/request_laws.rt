@@ -4,7 +4,7 @@ ghost use Rattle.std.specs.List.{AllByRecursion, AllZip};
 ghost use Rattle.itip_moment.specs.declared.stamp.Stamp.{Stamp};
 ghost use Rattle.itip_todo.specs.PartsOf.{parts_of};
 ghost use Rattle.itip_todo.specs.declared.todo.Todo.{Todo};
-ghost use Rattle.itip_items.specs.Needs.{Suits};
+ghost use Rattle.itip_items.specs.MethodNeeds.{Suits};
 ghost use Rattle.itip_items.specs.declared.item.Item.{Item};
 ghost use Rattle.itip_items.specs.declared.kind.Method.TheVariants as method;
 ghost use Rattle.itip_message.specs.Message.{ReadsMessage};

@@ -2,7 +2,7 @@ use Rattle.itip_app.proofs.filters.filter_status.Goals as goal
 
 pub returns : goal.returns
 returns g c = record {
-  worked = c.thread_count-threads.ensures.known;
+  asked = c.thread_count-threads.ensures.known;
   done = c.write_filtered-done.result;
   comes = record {
     output = c.write_filtered-done.ensures.output;

@@ -2,7 +2,7 @@ use Rattle.itip_app.proofs.run.office.Goals as goal
 
 pub returns : goal.returns
 returns g c = record {
-  explained = c.causes-causes.ensures.known;
+  employed = c.worker_count-workers.ensures.known;
   done = c.office_on.result;
   comes = record {
     output = c.office_on.ensures.output;

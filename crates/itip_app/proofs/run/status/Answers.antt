@@ -7,7 +7,8 @@ returns g c = inr (inr (record {
   words = map string_bytes c.as_slice.result.now;
   given = subst (λ texts. g.R.Gives.gives c.args.rt.now (Ok (map string_bytes texts))) (sym c.as_slice.ensures.value)
       c.in-Ok.ensures.given;
-  clock = c.now.result;
+  clock = c.moment.result;
+  ticked = c.moment.ensures;
   what = c.read_words.result;
   asked = c.read_words.ensures.asked;
   unasked = c.read_words.ensures.no_call;

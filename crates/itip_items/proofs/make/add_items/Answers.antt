@@ -4,7 +4,7 @@ use Rattle.itip_todo.specs.Parts.{Parts}
 use Rattle.itip_todo.specs.PartsOf.{parts_of}
 use Rattle.itip_items.specs.Items.{ItemDraft, attendee_draft, drafts_of, kind_of, raised, is_task, method_of}
 use Rattle.itip_items.specs.Given.{Adds, IsOver, IfLarge}
-use Rattle.itip_items.specs.Needs.{Suits}
+use Rattle.itip_items.specs.MethodNeeds.{Suits}
 use Rattle.itip_items.specs.declared.kind.Kind.{Kind}
 use Rattle.itip_items.specs.declared.kind.Method.{Method}
 use Rattle.itip_items.specs.declared.kind.Kind.TheVariants as kind

@@ -6,7 +6,7 @@ use Rattle.itip_todo.specs.PartsOf.{parts_of}
 use Rattle.itip_todo.specs.declared.todo.Todo.{Todo}
 use Rattle.itip_items.specs.Items.{drafts}
 use Rattle.itip_items.specs.Given.{FirstOver, GivesItems, IfTooLarge, drafts_each}
-use Rattle.itip_items.specs.Needs.{Suits}
+use Rattle.itip_items.specs.MethodNeeds.{Suits}
 use Rattle.itip_items.specs.declared.item.Item.{Item}
 use Rattle.itip_items.specs.declared.kind.Method.{Method}
 use Rattle.itip_items.proofs.make.make_items.Goals as goal

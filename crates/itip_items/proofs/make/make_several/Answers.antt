@@ -8,7 +8,7 @@ use Rattle.itip_todo.specs.declared.todo.Todo.{Todo}
 use Rattle.itip_items.specs.Items.{ItemDraft, drafts, drafts_of, kind_of, raised, series_sequence}
 use Rattle.itip_items.specs.Given.{Adds, GivesItems, IsOver, FirstOver, IfTooLarge, drafts_each}
 use Rattle.itip_items.specs.declared.error.FormError.{FormError}
-use Rattle.itip_items.specs.Needs.{Suits}
+use Rattle.itip_items.specs.MethodNeeds.{Suits}
 use Rattle.itip_items.specs.declared.item.Item.{Item}
 use Rattle.itip_items.specs.declared.kind.Method.{Method}
 use Rattle.itip_items.proofs.Adding.{adds_both, adds_none, adds_all, drafts_among, large_of}

@@ -3,7 +3,7 @@ use Rattle.std.specs.Vec.Iter.{into_iter_items, into_iter_len}
 use Rattle.std.specs.List.{AllByRecursion}
 use Rattle.itip_todo.specs.PartsOf.{parts_of}
 use Rattle.itip_items.specs.Given.{Adds, FirstOver, drafts_each}
-use Rattle.itip_items.specs.Needs.{Suits}
+use Rattle.itip_items.specs.MethodNeeds.{Suits}
 use Rattle.itip_items.specs.declared.item.Item.{Item}
 use Rattle.itip_items.proofs.Adding.{drafts_among}
 use Rattle.itip_items.proofs.make.make_several.Given as goal

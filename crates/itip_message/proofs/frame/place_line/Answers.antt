@@ -1,6 +1,6 @@
 use Rattle.std.proofs.Common.{◌≡◌, ◌∙◌, sym, arith, true, false}
 use Rattle.itip_message.specs.Frame.{innermost_first, property}
-use Rattle.itip_items.specs.Needs.{is_begin, is_end}
+use Rattle.itip_items.specs.MethodNeeds.{is_begin, is_end}
 use Rattle.std.specs.Vec.{vec_len}
 use Rattle.std.specs.Option.{option_to_list}
 use Rattle.itip_message.proofs.Frames.{innermost_length, not_zero, property_so}

@@ -1,6 +1,6 @@
 use Rattle.std.proofs.Common.{◌≡◌, List, [], sym, subst}
 use Rattle.itip_office.specs.Answers.{Answer}
-use Rattle.itip_office.specs.Seen.{IsOneOf}
+use Rattle.itip_office.specs.LooksAndCarries.{IsOneOf}
 use Rattle.itip_office.specs.Merged.{GrewShown, GrewTexts}
 use Rattle.itip_office.proofs.Merging.{grew_shown_none}
 use Rattle.itip_office.proofs.Taking.{grew_texts_none}

@@ -1,4 +1,4 @@
-use Rattle.itip_office.specs.Seen.{IsOneOf}
+use Rattle.itip_office.specs.LooksAndCarries.{IsOneOf}
 use Rattle.itip_office.specs.Merged.{IsIdle, GrewShown, GrewTexts}
 use Rattle.itip_office.proofs.desk_loop.merge_all.Given as goal
 

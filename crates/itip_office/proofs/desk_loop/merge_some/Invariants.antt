@@ -1,7 +1,7 @@
 use Rattle.std.proofs.Common.{Option}
 use Rattle.itip_desk.specs.Desk.{Shown}
 use Rattle.itip_running.specs.declared.keeper.Keeper.{Keeper}
-use Rattle.itip_office.specs.Seen.{IsOneOf}
+use Rattle.itip_office.specs.LooksAndCarries.{IsOneOf}
 use Rattle.itip_office.specs.Merged.{IsIdle, GrewShown, GrewTexts}
 use Rattle.itip_office.proofs.desk_loop.merge_some.Given as goal
 

@@ -1,5 +1,5 @@
 use Rattle.std.proofs.Common.{All}
-use Rattle.itip_office.specs.Seen.{IsOneOf, IsAnswered}
+use Rattle.itip_office.specs.LooksAndCarries.{IsOneOf, IsAnswered}
 use Rattle.itip_office.proofs.job_loop.answer_all.Given as goal
 
 abbrev pub invariant-loop : goal.invariant-loop

@@ -2,7 +2,7 @@ use Rattle.std.proofs.Common.{rules, [], ◌∷◌}
 use Rattle.std.specs.Prelude.{option_to_list}
 use Rattle.std.proofs.lemmas.List.Elements.{All-nil, All-cons}
 use Rattle.itip_office.specs.Answers.{Answer}
-use Rattle.itip_office.specs.Seen.{IsOneOf, IsAnswered}
+use Rattle.itip_office.specs.LooksAndCarries.{IsOneOf, IsAnswered}
 use Rattle.itip_office.proofs.Seeing.{answered_together}
 use Rattle.itip_office.proofs.job_loop.answer_one.Goals as goal
 

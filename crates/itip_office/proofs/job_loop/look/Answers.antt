@@ -7,7 +7,7 @@ use Rattle.itip_desk.specs.declared.refusal.Refusal.TheVariants.{TooManyRows}
 use Rattle.itip_office.specs.declared.job.Work.TheVariants.{Look}
 use Rattle.itip_office.specs.declared.outcome.Outcome.TheVariants.{Looked, Refused}
 use Rattle.itip_office.specs.Answers.{IsLooked}
-use Rattle.itip_office.specs.Seen.{IsOneOf, LooksAt}
+use Rattle.itip_office.specs.LooksAndCarries.{IsOneOf, LooksAt}
 use Rattle.itip_office.proofs.Seeing.{shows_here}
 use Rattle.itip_office.proofs.job_loop.look.Goals as goal
 use Rattle.itip_office.proofs.job_loop.look.Goals.{In-Ok, In-Err-TooManyRows}

@@ -1,7 +1,7 @@
 use Rattle.std.proofs.Common.{◌≡◌, List, [], All, sym, subst}
 use Rattle.std.proofs.lemmas.List.Elements.{All-nil}
 use Rattle.itip_office.specs.Answers.{Answer}
-use Rattle.itip_office.specs.Seen.{IsOneOf, IsAnswered}
+use Rattle.itip_office.specs.LooksAndCarries.{IsOneOf, IsAnswered}
 use Rattle.itip_office.proofs.job_loop.worker_loop.Goals as goal
 
 pub returns-clause-answered : goal.returns-clause-answered

@@ -2,7 +2,7 @@ use Rattle.std.proofs.Common.{rules, ◌≡◌, ◌+◌, List, [], ◌∷◌, �
 use Rattle.std.proofs.lemmas.List.{take_more, take_all}
 use Rattle.std.proofs.lemmas.List.Elements.{All-nil, All-push}
 use Rattle.itip_office.specs.declared.team.Merged.{Merged}
-use Rattle.itip_office.specs.Seen.{Source}
+use Rattle.itip_office.specs.LooksAndCarries.{Source}
 use Rattle.itip_office.specs.Published.{IsBeginning, publication_of}
 use Rattle.itip_office.proofs.team.are_published.Goals as goal
 

@@ -1,7 +1,7 @@
 use Rattle.std.proofs.Common.{All}
 use Rattle.std.specs.Prelude.{IfOk, IsErrOf}
 use Rattle.itip_office.specs.declared.error.OfficeError.TheVariants as error
-use Rattle.itip_office.specs.Seen.{IsOneOf}
+use Rattle.itip_office.specs.LooksAndCarries.{IsOneOf}
 use Rattle.itip_office.specs.Pairs.{HasKept}
 use Rattle.itip_office.proofs.team.join_keepers.Given as goal
 

@@ -2,7 +2,7 @@ use Rattle.std.proofs.Common.{◌≡◌, ℕ, ◌∷◌, All, subst, inl, inr}
 use Rattle.std.specs.Prelude.{IfOk}
 use Rattle.std.specs.Vec.Iter.{into_iter_items}
 use Rattle.std.proofs.lemmas.List.Elements.{All-head, All-tail}
-use Rattle.itip_office.specs.Seen.{IsOneOf, IsAnswered}
+use Rattle.itip_office.specs.LooksAndCarries.{IsOneOf, IsAnswered}
 use Rattle.itip_office.proofs.team.join_workers.Goals as goal
 
 pub loop-worker-preserved : goal.loop-worker-preserved

@@ -2,7 +2,7 @@ use Rattle.std.proofs.Common.{◌≡◌, ℕ, All}
 use Rattle.std.specs.Prelude.{IfOk, IsErrOf}
 use Rattle.std.specs.Vec.Iter.{into_iter_items}
 use Rattle.itip_office.specs.declared.error.OfficeError.TheVariants as error
-use Rattle.itip_office.specs.Seen.{IsOneOf, IsAnswered}
+use Rattle.itip_office.specs.LooksAndCarries.{IsOneOf, IsAnswered}
 use Rattle.itip_office.proofs.team.join_workers.Given as goal
 
 abbrev pub invariant-loop-worker : goal.invariant-loop-worker

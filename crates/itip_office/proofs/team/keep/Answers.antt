@@ -1,7 +1,7 @@
 use Rattle.std.proofs.Common.{rules, ◌≡◌, subst, Option}
 use Rattle.itip_desk.specs.Desk.{Shown}
 use Rattle.itip_running.specs.declared.keeper.Keeper.{Keeper}
-use Rattle.itip_office.specs.Seen.{IsOneOf}
+use Rattle.itip_office.specs.LooksAndCarries.{IsOneOf}
 use Rattle.itip_office.specs.Merged.{GrewTexts, GrewShown}
 use Rattle.itip_office.proofs.Publishing.{has_kept}
 use Rattle.itip_office.proofs.team.keep.Goals as goal

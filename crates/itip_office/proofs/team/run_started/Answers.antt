@@ -5,7 +5,7 @@ use Rattle.logbook.specs.Pages.{Book}
 use Rattle.itip_office.specs.declared.team.Merged.{Merged}
 use Rattle.itip_office.specs.declared.team.Done.{Done}
 use Rattle.itip_office.specs.Answers.{Answer, AnswersAlone}
-use Rattle.itip_office.specs.Seen.{Source, IsOneOf, IsAnswered}
+use Rattle.itip_office.specs.LooksAndCarries.{Source, IsOneOf, IsAnswered}
 use Rattle.itip_office.specs.Merged.{HasMerged}
 use Rattle.itip_office.specs.Pairs.{IsOfPair, HasKept}
 use Rattle.itip_office.specs.Published.{IsBeginning, AreShown, publication_of}

@@ -3,7 +3,7 @@ use Rattle.std.proofs.lemmas.List.Elements.{All-nil, All-cons}
 use Rattle.std.proofs.lemmas.Result.{IfOk-at_ok}
 use Rattle.itip_items.specs.declared.item.Item.{Item}
 use Rattle.itip_office.specs.declared.team.Merged.{Merged}
-use Rattle.itip_office.specs.Seen.{IsOneOf}
+use Rattle.itip_office.specs.LooksAndCarries.{IsOneOf}
 use Rattle.itip_office.specs.Pairs.{HasKept}
 use Rattle.itip_office.proofs.Seeing.{kept_wider, all_together}
 use Rattle.itip_office.proofs.team.with_kept.Goals as goal

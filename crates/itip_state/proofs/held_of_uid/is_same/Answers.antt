@@ -1,6 +1,6 @@
 use Rattle.std.proofs.Common.{◌≡◌, ◌∙◌, sym, ap, true}
 use Rattle.std.specs.Ordering.{is_eq}
-use Rattle.itip_items.specs.Later.{revision_cmp}
+use Rattle.itip_items.specs.RevisionOrder.{revision_cmp}
 use Rattle.itip_items.specs.Revisions.{revisions_total}
 use Rattle.itip_items.specs.declared.item.Item.{Item}
 use Rattle.itip_items.proofs.Revisions.{revision_exact}

@@ -1,6 +1,6 @@
 use Rattle.std.proofs.Common.{ℕ, List, Option, Some, subst}
 use Rattle.itip_items.specs.declared.item.Item.{Item}
-use Rattle.itip_view.specs.OfUid.{IsWhole}
+use Rattle.itip_view.specs.RowsOfUid.{IsWhole}
 use Rattle.itip_view.specs.declared.whole.Whole.{Whole}
 use Rattle.itip_view.proofs.occurring_whole.occurring_whole.Goals as goal
 

@@ -5,7 +5,7 @@ use Rattle.std.specs.List.{Contains}
 use Rattle.std.specs.List.Sorted.{IsStrictlySortedBy}
 use Rattle.std.specs.Option.{option_copied}
 use Rattle.itip_moment.specs.Order.{moment_cmp}
-use Rattle.itip_view.specs.OfUid.{AreOccurrencesOf, ArePlaces}
+use Rattle.itip_view.specs.RowsOfUid.{AreOccurrencesOf, ArePlaces}
 use Rattle.itip_view.specs.declared.window.Window.{Window}
 use Rattle.std.proofs.lemmas.List.{length-map, take_more}
 use Rattle.std.proofs.Math.ListN.{get_or-map}

@@ -2,7 +2,7 @@ use Rattle.std.proofs.Common.{subst}
 use Rattle.itip_state.proofs.Members.{if_ok_then}
 use Rattle.itip_state.specs.OfUid.{UidPart}
 use Rattle.itip_view.specs.InUid.{IsViewOf}
-use Rattle.itip_view.specs.OfUid.{AreRowsOf}
+use Rattle.itip_view.specs.RowsOfUid.{AreRowsOf}
 use Rattle.itip_view.specs.declared.rows_of_uid.UidView.{UidView}
 use Rattle.itip_view.specs.declared.window.Window.{Window}
 use Rattle.itip_view.proofs.rows_of_uid.rows_of_uid.Goals as goal

@@ -2,9 +2,9 @@ use Rattle.std.proofs.Common.{List, ℕ, subst}
 use Rattle.std.specs.List.{filter}
 use Rattle.itip_state.proofs.Members.{if_ok_then}
 use Rattle.itip_state.specs.OfUid.{UidPart}
-use Rattle.itip_view.specs.Most.{HasRows}
-use Rattle.itip_view.specs.OfUid.{AreRowsOf}
-use Rattle.itip_view.specs.Places.{AreWanted}
+use Rattle.itip_view.specs.MostRows.{HasRows}
+use Rattle.itip_view.specs.RowsOfUid.{AreRowsOf}
+use Rattle.itip_view.specs.UnmadeRows.{AreWanted}
 use Rattle.itip_view.specs.Wanted.{wants}
 use Rattle.itip_view.specs.Wanting.{Wants}
 use Rattle.itip_view.specs.declared.wanted.Wanted.{Wanted}

@@ -1,7 +1,7 @@
 use Rattle.std.proofs.Common.{List, ℕ, subst}
 use Rattle.std.specs.List.{filter}
 use Rattle.itip_state.proofs.Members.{if_ok_then}
-use Rattle.itip_view.specs.OfUid.{AreRowsOf}
+use Rattle.itip_view.specs.RowsOfUid.{AreRowsOf}
 use Rattle.itip_view.specs.PutRows.{ArePut, PutsRows}
 use Rattle.itip_view.specs.Showing.{IsOf}
 use Rattle.itip_view.specs.Wanted.{wants}

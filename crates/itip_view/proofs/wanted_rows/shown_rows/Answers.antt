@@ -1,7 +1,7 @@
 use Rattle.std.proofs.Common.{◌≡◌, List, ℕ, subst, sym, rules}
 use Rattle.std.specs.List.{filter}
 use Rattle.std.proofs.lemmas.Fn.{filter_same}
-use Rattle.itip_view.specs.OfUid.{AreRowsOf}
+use Rattle.itip_view.specs.RowsOfUid.{AreRowsOf}
 use Rattle.itip_view.specs.Showing.{AreRowsWhere, IsOf}
 use Rattle.itip_view.specs.Wanted.{wants}
 use Rattle.itip_view.specs.Wanting.{Wants}

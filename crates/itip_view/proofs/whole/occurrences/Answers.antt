@@ -5,7 +5,7 @@ use mir.Val.{SFits}
 use Rattle.itip_recur.specs.Occurrences.{AreOccurrences}
 use Rattle.itip_state.proofs.Members.{if_ok_then}
 use Rattle.itip_items.specs.declared.item.Item.{Item}
-use Rattle.itip_view.specs.OfUid.{IsWhole, AreOccurrencesOf}
+use Rattle.itip_view.specs.RowsOfUid.{IsWhole, AreOccurrencesOf}
 use Rattle.itip_view.specs.declared.whole.Whole.{Whole}
 use Rattle.itip_view.proofs.Occurring.{occurrences_are, single_occurs, opaque_occurs}
 use Rattle.itip_view.proofs.whole.occurrences.Goals as goal

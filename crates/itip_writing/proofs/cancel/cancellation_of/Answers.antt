@@ -4,7 +4,7 @@ use Rattle.std.proofs.lemmas.Result.{err_from_is_err_and}
 use Rattle.itip_moment.specs.declared.moment.Moment.{Moment}
 use Rattle.itip_todo.specs.Parts.{Parts}
 use Rattle.itip_items.specs.declared.item.Item.{Item}
-use Rattle.itip_report.specs.Organizing.{IsNext}
+use Rattle.itip_report.specs.NextSequence.{IsNext}
 use Rattle.itip_writing.specs.Cancelling.{IsCancelOf, cancelled}
 use Rattle.itip_writing.specs.Sent.{brief_parts}
 use Rattle.itip_writing.proofs.CancelCauses.{cancel_of, none_cancelled, unread_cancelled}

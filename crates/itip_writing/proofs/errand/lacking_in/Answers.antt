@@ -2,7 +2,7 @@ use Rattle.std.proofs.Common.{ℕ, List, map}
 use Rattle.std.specs.Prelude.{MatchOption}
 use Rattle.itip_items.specs.declared.item.Item.{Item}
 use Rattle.itip_view.specs.Standing.{IsLiveSeries}
-use Rattle.itip_report.specs.Organizing.{AreResent}
+use Rattle.itip_report.specs.Resending.{AreResent}
 use Rattle.itip_writing.proofs.errand.lacking_in.Goals as goal
 
 pub returns-clause-lacking : goal.returns-clause-lacking

@@ -2,7 +2,7 @@ use Rattle.std.proofs.Common.{ℕ, List, subst}
 use Rattle.std.specs.Prelude.{None}
 use Rattle.itip_items.specs.declared.item.Item.{Item}
 use Rattle.itip_state.proofs.Members.{if_ok_then}
-use Rattle.itip_report.specs.Organizing.{IsResendOf}
+use Rattle.itip_report.specs.Resending.{IsResendOf}
 use Rattle.itip_report.proofs.Resending.{resend_there, resent_there}
 use Rattle.itip_report.proofs.SameOf.{part_says}
 use Rattle.itip_writing.specs.Causes.{IfNothing}

@@ -4,7 +4,7 @@ use Rattle.itip_moment.specs.declared.moment.Moment.{Moment}
 use Rattle.itip_moment.specs.declared.stamp.Stamp.{Stamp}
 use Rattle.itip_todo.specs.Parts.{Parts}
 use Rattle.itip_items.specs.declared.item.Item.{Item}
-use Rattle.itip_report.specs.Organizing.{IsNext}
+use Rattle.itip_report.specs.NextSequence.{IsNext}
 use Rattle.itip_writing.specs.Cancelling.{AreEndings, IsSent, IsUnread, lacking_among}
 use Rattle.itip_writing.specs.Causes.{IfUnread}
 use Rattle.itip_writing.specs.Endings.{endings_of}

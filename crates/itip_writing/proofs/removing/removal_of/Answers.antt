@@ -7,7 +7,7 @@ use Rattle.itip_moment.specs.declared.stamp.Stamp.{Stamp}
 use Rattle.itip_todo.specs.Parts.{Parts}
 use Rattle.itip_todo.specs.Properties.{Property}
 use Rattle.itip_items.specs.declared.item.Item.{Item}
-use Rattle.itip_report.specs.Organizing.{IsNext}
+use Rattle.itip_report.specs.NextSequence.{IsNext}
 use Rattle.itip_view.proofs.Asking.{shows_is}
 use Rattle.itip_writing.specs.Cancelling.{notice}
 use Rattle.itip_writing.specs.Causes.{IfOvertaken}

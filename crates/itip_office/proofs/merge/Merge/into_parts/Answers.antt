@@ -1,5 +1,5 @@
 use Rattle.std.specs.Prelude.{option_to_list}
-use Rattle.itip_office.specs.Seen.{IsOneOf}
+use Rattle.itip_office.specs.LooksAndCarries.{IsOneOf}
 use Rattle.itip_office.proofs.Texts.{merges_of}
 use Rattle.itip_office.proofs.Seeing.{brought_of}
 use Rattle.itip_office.proofs.merge.Merge.into_parts.Goals as goal

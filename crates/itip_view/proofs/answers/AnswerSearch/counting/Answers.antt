@@ -1,7 +1,7 @@
 use Rattle.std.proofs.Common.{List}
 use Rattle.itip_items.specs.declared.item.Item.{Item}
 use Rattle.itip_view.specs.Answers.{Asked}
-use Rattle.itip_view.specs.OfUid.{to_question}
+use Rattle.itip_view.specs.RowsOfUid.{to_question}
 use Rattle.itip_view.proofs.Beside.{none_counts, too_early}
 use Rattle.itip_view.proofs.answers.AnswerSearch.counting.Goals as goal
 use Rattle.itip_view.proofs.answers.AnswerSearch.counting.Goals.{in_default-via-in-Some+else-question-answer, in_default-via-in_default}

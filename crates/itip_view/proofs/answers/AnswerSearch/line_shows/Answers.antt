@@ -5,7 +5,7 @@ use Rattle.itip_todo.specs.Table.{attendee_key}
 use Rattle.itip_todo.specs.Properties.{Property}
 use Rattle.itip_items.specs.declared.item.Item.{Item}
 use Rattle.itip_view.specs.Answers.{Asked, Decides}
-use Rattle.itip_view.specs.OfUid.{asked_by, asked_of}
+use Rattle.itip_view.specs.RowsOfUid.{asked_by, asked_of}
 use Rattle.itip_view.specs.Wanted.{is_some_asked}
 use Rattle.itip_view.proofs.Asked.{other_line, line_decided}
 use Rattle.itip_view.proofs.answers.AnswerSearch.line_shows.Goals as goal

@@ -4,7 +4,7 @@ use Rattle.std.proofs.lemmas.List.{at_drop_more, at_drop_all}
 use Rattle.itip_todo.specs.Properties.{Property}
 use Rattle.itip_items.specs.declared.item.Item.{Item}
 use Rattle.itip_view.specs.Answers.{Asked, Decides, AreShown, shown_line, in_front}
-use Rattle.itip_view.specs.OfUid.{asked_of, asked_by}
+use Rattle.itip_view.specs.RowsOfUid.{asked_of, asked_by}
 use Rattle.itip_view.specs.declared.answers.Questions.{Questions}
 use Rattle.itip_view.specs.declared.keyed_item.AttendeeLine.{AttendeeLine}
 use Rattle.itip_view.specs.declared.row.ShownAttendee.{ShownAttendee}

@@ -1,6 +1,6 @@
 use Rattle.std.proofs.Common.{List, ◌++◌, drop, map}
 use Rattle.itip_view.specs.Answers.{AreShown}
-use Rattle.itip_view.specs.OfUid.{asked_by}
+use Rattle.itip_view.specs.RowsOfUid.{asked_by}
 use Rattle.itip_view.specs.declared.row.ShownAttendee.{ShownAttendee}
 use Rattle.itip_view.proofs.answers.AnswerSearch.shown_attendees.Given as goal
 

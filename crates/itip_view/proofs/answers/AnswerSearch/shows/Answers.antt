@@ -4,7 +4,7 @@ use Rattle.std.proofs.lemmas.List.{at_drop_more, at_drop_all}
 use Rattle.itip_todo.specs.Properties.{Property}
 use Rattle.itip_items.specs.declared.item.Item.{Item}
 use Rattle.itip_view.specs.Answers.{Asked, Decides, AreShown, shown_line}
-use Rattle.itip_view.specs.OfUid.{asked_by}
+use Rattle.itip_view.specs.RowsOfUid.{asked_by}
 use Rattle.itip_view.specs.Wanted.{is_asked, is_some_asked}
 use Rattle.itip_view.proofs.Asked.{shows_first, shows_later}
 use Rattle.itip_view.proofs.answers.AnswerSearch.shows.Goals as goal

@@ -1,5 +1,5 @@
 use Rattle.std.proofs.Common.{drop}
-use Rattle.itip_view.specs.OfUid.{asked_by}
+use Rattle.itip_view.specs.RowsOfUid.{asked_by}
 use Rattle.itip_view.proofs.Asked.{LeftToAsk}
 use Rattle.itip_view.proofs.answers.AnswerSearch.shows.Given as goal
 

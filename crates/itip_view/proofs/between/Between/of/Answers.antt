@@ -2,7 +2,7 @@ use Rattle.std.proofs.Common.{◌≡◌, ◌∙◌, ◌<◌, subst, sym, eqb-tru
 use Rattle.std.specs.List.{Contains}
 use Rattle.itip_moment.specs.declared.moment.Moment.{Moment}
 use Rattle.itip_items.specs.declared.item.Item.{Item}
-use Rattle.itip_view.specs.OfUid.{IsWhole}
+use Rattle.itip_view.specs.RowsOfUid.{IsWhole}
 use Rattle.itip_view.specs.Standing.{IsLiveSeries}
 use Rattle.itip_view.proofs.between.Between.of.Goals as goal
 

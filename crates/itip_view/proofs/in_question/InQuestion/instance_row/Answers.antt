@@ -3,7 +3,7 @@ use Rattle.itip_moment.specs.declared.moment.Moment.{Moment}
 use Rattle.itip_items.specs.declared.item.Item.{Item}
 use Rattle.itip_state.specs.OfUid.{UidPart}
 use Rattle.itip_view.specs.Answers.{AreShown}
-use Rattle.itip_view.specs.OfUid.{asked_by}
+use Rattle.itip_view.specs.RowsOfUid.{asked_by}
 use Rattle.itip_view.specs.Rows.{instance_answers}
 use Rattle.itip_view.specs.declared.answers.Questions.{Questions}
 use Rattle.itip_view.proofs.Asking.{cancelled_instance, shows_instance}

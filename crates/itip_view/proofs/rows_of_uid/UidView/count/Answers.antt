@@ -7,7 +7,7 @@ use Rattle.itip_moment.specs.Order.{moment_cmp}
 use Rattle.itip_state.proofs.Ascending.{pairs_ascend}
 use Rattle.itip_moment.specs.declared.moment.Moment.{Moment}
 use Rattle.itip_state.specs.OfUid.{UidPart}
-use Rattle.itip_view.specs.OfUid.{ArePlaces}
+use Rattle.itip_view.specs.RowsOfUid.{ArePlaces}
 use Rattle.itip_view.specs.declared.wanted.Wanted.{Wanted}
 use Rattle.itip_view.specs.declared.window.Window.{Window}
 use Rattle.itip_view.proofs.Collecting.{earlier_before}

@@ -4,7 +4,7 @@ use Rattle.itip_recur.specs.ToDoShape.{IsShape}
 use Rattle.itip_recur.specs.declared.series.Shape.TheVariants as shape
 use Rattle.itip_items.specs.declared.item.Item.{Item}
 use Rattle.itip_items.specs.declared.key.Key.TheVariants as key
-use Rattle.itip_view.specs.OfUid.{IsRowOf, IsWhole}
+use Rattle.itip_view.specs.RowsOfUid.{IsRowOf, IsWhole}
 use Rattle.itip_view.specs.Rows.{occurrence_answers}
 use Rattle.itip_view.specs.declared.row.RowId.TheVariants as id
 use Rattle.itip_view.specs.declared.whole.Whole.{Whole}

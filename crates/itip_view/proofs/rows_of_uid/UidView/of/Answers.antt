@@ -1,7 +1,7 @@
 use Rattle.std.proofs.Common.{List, refl, sym, subst}
 use Rattle.itip_moment.specs.declared.moment.Moment.{Moment}
 use Rattle.itip_state.specs.OfUid.{UidPart}
-use Rattle.itip_view.specs.OfUid.{AreOccurrencesOf}
+use Rattle.itip_view.specs.RowsOfUid.{AreOccurrencesOf}
 use Rattle.itip_view.proofs.rows_of_uid.UidView.of.Goals as goal
 
 pub returns : goal.returns

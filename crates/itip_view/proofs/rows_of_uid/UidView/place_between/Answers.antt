@@ -2,7 +2,7 @@ use Rattle.std.proofs.Common.{◌≡◌, subst, Option, Some, None, Bor}
 use Rattle.std.specs.Prelude.{MatchOption}
 use Rattle.itip_moment.specs.declared.moment.Moment.{Moment}
 use Rattle.itip_state.specs.OfUid.{UidPart}
-use Rattle.itip_view.specs.OfUid.{IsBetween}
+use Rattle.itip_view.specs.RowsOfUid.{IsBetween}
 use Rattle.itip_view.specs.Standing.{Rules, NoneRules}
 use Rattle.itip_view.specs.declared.keyed_item.KeyedItem.{KeyedItem}
 use Rattle.itip_view.proofs.rows_of_uid.UidView.place_between.Goals as goal

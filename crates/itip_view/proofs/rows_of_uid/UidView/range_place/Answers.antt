@@ -2,7 +2,7 @@ use Rattle.std.proofs.Common.{◌≡◌, ◌∙◌, sym, subst, List, ℕ, max, 
 use Rattle.itip_moment.specs.declared.moment.Moment.{Moment}
 use Rattle.itip_items.specs.declared.item.Item.{Item}
 use Rattle.itip_items.specs.declared.key.Key.TheVariants as key
-use Rattle.itip_view.specs.OfUid.{IsRowOf, asked_by, in_turn}
+use Rattle.itip_view.specs.RowsOfUid.{IsRowOf, asked_by, in_turn}
 use Rattle.itip_view.specs.Rows.{IsStartFrom, IsDueFrom}
 use Rattle.itip_view.specs.declared.row.RowId.TheVariants as id
 use Rattle.itip_view.proofs.OneRow.{one_best}

@@ -1,6 +1,6 @@
 use Rattle.std.proofs.Common.{◌∙◌, ap, map, sym}
 use Rattle.itip_items.specs.declared.item.Item.{Item}
-use Rattle.itip_view.specs.Places.{governing_item}
+use Rattle.itip_view.specs.UnmadeRows.{governing_item}
 use Rattle.itip_view.specs.declared.keyed_item.AttendeeLine.{AttendeeLine}
 use Rattle.itip_view.proofs.rows_of_uid.UidView.row_of.Goals as goal
 

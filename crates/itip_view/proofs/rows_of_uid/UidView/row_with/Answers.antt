@@ -4,18 +4,18 @@ use Rattle.itip_todo.specs.Properties.{Property}
 use Rattle.itip_items.specs.declared.item.Item.{Item}
 use Rattle.itip_state.specs.OfUid.{UidPart}
 use Rattle.itip_view.specs.Answers.{AreShown}
-use Rattle.itip_view.specs.OfUid.{asked_by}
-use Rattle.itip_view.specs.Places.{governing_item, questions_of}
+use Rattle.itip_view.specs.RowsOfUid.{asked_by}
+use Rattle.itip_view.specs.UnmadeRows.{governing_item, questions_of}
 use Rattle.itip_view.specs.Progress.{progress_of}
 use Rattle.itip_view.specs.declared.answers.Questions.{Questions}
 use Rattle.itip_view.specs.declared.row.ShownAttendee.{ShownAttendee}
-use Rattle.itip_view.specs.declared.row_place.RowPlace.{RowPlace}
+use Rattle.itip_view.specs.declared.unmade_row.UnmadeRow.{UnmadeRow}
 use Rattle.itip_view.proofs.rows_of_uid.UidView.row_with.Goals as goal
 
 pub returns : goal.returns
 returns c =
     let part : UidPart = c.args.self.now.items.now in
-    let place : RowPlace = c.args.place.now in
+    let place : UnmadeRow = c.args.place.now in
     let item : Item = governing_item place.governing in
     let shown : List ShownAttendee = c.in_ok-attendees.attendees in
     let are : AreShown part.items (asked_by part.uid (questions_of item place.kind)) item.todo.attendees shown =

@@ -8,7 +8,7 @@ use Rattle.itip_state.proofs.Ascending.{pairs_ascend}
 use Rattle.itip_moment.specs.declared.moment.Moment.{Moment}
 use Rattle.itip_items.specs.declared.item.Item.{Item}
 use Rattle.itip_state.specs.OfUid.{UidPart}
-use Rattle.itip_view.specs.OfUid.{ArePlaces, IsAnswerAt}
+use Rattle.itip_view.specs.RowsOfUid.{ArePlaces, IsAnswerAt}
 use Rattle.itip_view.specs.declared.row.Row.{Row}
 use Rattle.itip_view.proofs.Collecting.{RowsUpTo, rows_begin, rows_next, rows_of_places, earlier_before}
 use Rattle.itip_view.proofs.Made.{made_at}

@@ -6,12 +6,12 @@ use Rattle.itip_items.specs.declared.item.Item.{Item}
 use Rattle.itip_state.proofs.Members.{if_ok_then}
 use Rattle.itip_state.specs.OfUid.{UidPart}
 use Rattle.itip_view.specs.Answers.{AreShown}
-use Rattle.itip_view.specs.OfUid.{asked_by}
-use Rattle.itip_view.specs.Places.{governing_item, questions_of}
+use Rattle.itip_view.specs.RowsOfUid.{asked_by}
+use Rattle.itip_view.specs.UnmadeRows.{governing_item, questions_of}
 use Rattle.itip_view.specs.Wanted.{is_asked, shows_named}
 use Rattle.itip_view.specs.declared.answers.Questions.{Questions}
 use Rattle.itip_view.specs.declared.row.ShownAttendee.{ShownAttendee}
-use Rattle.itip_view.specs.declared.row_place.RowPlace.{RowPlace}
+use Rattle.itip_view.specs.declared.unmade_row.UnmadeRow.{UnmadeRow}
 use Rattle.itip_view.proofs.rows_of_uid.UidView.shows_named.Goals as goal
 
 pub returns-in_default : goal.returns-in_default
@@ -21,7 +21,7 @@ returns-in_default c = λ shown are.
 pub returns : goal.returns
 returns c =
     let part : UidPart = c.args.self.now.items.now in
-    let place : RowPlace = c.args.place.now in
+    let place : UnmadeRow = c.args.place.now in
     let item : Item = governing_item place.governing in
     let lines : c.as_slice-lines.result.now ≡ item.todo.attendees = c.as_slice-lines.ensures ∙
     ap (λ (i : Item). i.todo.attendees) c.item.ensures in

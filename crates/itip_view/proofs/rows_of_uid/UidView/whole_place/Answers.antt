@@ -1,7 +1,7 @@
 use Rattle.std.proofs.Common.{subst, List, Option, Some}
 use Rattle.itip_recur.specs.ToDoShape.{IsShape}
 use Rattle.itip_items.specs.declared.item.Item.{Item}
-use Rattle.itip_view.specs.OfUid.{IsWhole}
+use Rattle.itip_view.specs.RowsOfUid.{IsWhole}
 use Rattle.itip_view.specs.declared.whole.Whole.{Whole}
 use Rattle.itip_view.proofs.PlaceRows.{opaque_is, no_whole_repeats, own_row}
 use Rattle.itip_view.proofs.rows_of_uid.UidView.whole_place.Goals as goal

@@ -1,6 +1,6 @@
 use Rattle.std.proofs.Common.{List, subst}
 use Rattle.itip_items.specs.declared.item.Item.{Item}
-use Rattle.itip_report.specs.Organizing.{IsNext}
+use Rattle.itip_report.specs.NextSequence.{IsNext}
 use Rattle.itip_world.specs.Looking.Looks.{tells_next, tells_no_desk}
 use Rattle.itip_world.proofs.looks.Look.next.Goals as goal
 

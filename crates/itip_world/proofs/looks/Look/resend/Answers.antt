@@ -1,7 +1,7 @@
 use Rattle.std.proofs.Common.{List, subst}
 use Rattle.std.specs.Option.{option_map}
 use Rattle.itip_items.specs.declared.item.Item.{Item}
-use Rattle.itip_report.specs.Organizing.{IsResendOf}
+use Rattle.itip_report.specs.Resending.{IsResendOf}
 use Rattle.itip_world.specs.Looking.Looks.{resends_messages, resends_no_desk}
 use Rattle.itip_world.proofs.looks.Look.resend.Goals as goal
 
