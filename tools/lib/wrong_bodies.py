@@ -2,6 +2,7 @@
 import datetime
 import glob
 import hashlib
+import itertools
 import os
 import re
 import shutil
@@ -109,8 +110,13 @@ def lay_out(tree, edits):
 FUNCTION = re.compile(r"\s*(?:pub(?:\([^)]*\))? )?(?:const )?(?:unsafe )?fn (\w+)")
 CLAUSE = re.compile(r"\s*(?:requires|ensures|ghost)\b")
 
-# A function of a source file: its lines from 1, and the first line of its body, behind the contract.
+# A function of a source file: its lines from 1, its attributes among them, and the first line of its body, behind the contract.
 Function = namedtuple("Function", "name first body last")
+
+
+def attributes_above(lines, number):
+    """How many lines of attributes stand right above a line (from 1)."""
+    return len(list(itertools.takewhile(lambda it: it.lstrip().startswith("#["), reversed(lines[: number - 1]))))
 
 
 def functions_in(text):
@@ -124,7 +130,7 @@ def functions_in(text):
             body = next((at for at, it in rest if it.endswith("{") and not CLAUSE.match(it)), None)
             last = next((at for at, it in rest if body and at > body and it == f"{blanks}}}"), None)
             if last:
-                found.append(Function(named[1], first, body, last))
+                found.append(Function(named[1], first - attributes_above(lines, first), body, last))
     return found
 
 
@@ -150,16 +156,35 @@ def body_of(edit):
     return found.pop() if len(found) == 1 else None
 
 
-def in_rounds(edits):
-    """Edits that change one body, in lists of which each changes every function once at most."""
+def modules_of(edits):
+    """The modules of the functions whose bodies these edits change, as the toolchain names them; none if one is the crate's root."""
+    names = sorted({body_of(it)[0].removeprefix("src/").removesuffix(".rt") for it in edits})
+    return [] if {"lib", "main"} & set(names) else [it.replace("/", "::") for it in names]
+
+
+CYCLE = re.compile(r"#\[cycle\((\w+)\)\]")
+
+
+def proof_of(edit):
+    """The folder of the proof of the only function whose body an edit changes: it has the function's name, or that of its cycle of calls."""
+    file, function = body_of(edit)
+    lines = repository.text_of(repository.crates()[edit.crate].folder, file).split("\n")
+    cycle = CYCLE.search("\n".join(lines[function.first - 1 : function.body]))
+    module = f"proofs/{file[len('src/') :].removesuffix('.rt')}/".replace("proofs/lib/", "proofs/")
+    return module, f"+{cycle[1]}" if cycle else function.name
+
+
+def in_rounds(edits, most=12):
+    """Edits that change one body, in lists of at most 12, of which each changes every proof once at most: the goals of many more take
+    more memory than there may be."""
     rounds = []
     for edit in edits:
-        body = body_of(edit)
-        if body:
-            free = next((it for it in rounds if body not in it), None)
+        if body_of(edit):
+            proof = proof_of(edit)
+            free = next((it for it in rounds if proof not in it and len(it) < most), None)
             if free is None:
                 rounds.append(free := {})
-            free[body] = edit
+            free[proof] = edit
     return [list(it.values()) for it in rounds]
 
 
@@ -172,7 +197,8 @@ def how_together(edit, output):
     """How an edit was refused that was tried with edits of other functions, or None where the output doesn't tell. A proof rests on the
     contracts of other functions and not on their bodies, so what is said of a function is due to its own edit."""
     file, function = body_of(edit)
-    folder = re.compile(re.escape(f"proofs/{file[len('src/') :].removesuffix('.rt')}/".replace("proofs/lib/", "proofs/")) + rf"(?:\S*/)?{function.name}/")
+    module, name = proof_of(edit)
+    folder = re.compile(rf"{re.escape(module)}(?:\S*/)?{re.escape(name)}/")
     said = [it for it in SAID_AT.findall(output) if it[0] == file and function.first <= int(it[1]) <= function.last]
     if any(it[2].startswith("error") for it in said):
         return None
