@@ -11,8 +11,7 @@ use itip_todo::{TodoCause, TodoError};
 use itip_view::{BadWindow, ViewError};
 use itip_world::Cause;
 use std::alloc::{AllocError, AllocFailed, Global};
-use std::fmt;
-use std::io;
+use std::{fmt, io};
 use thiserror::Error;
 
 /// Why a call gives no value: a fault, which is its answer, or what ends the run.

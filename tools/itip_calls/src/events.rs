@@ -2,8 +2,8 @@
 
 use crate::error::CallError;
 use crate::texts::{count, number, text};
-use itip_world::Event;
 use itip_lines::Bytes;
+use itip_world::Event;
 use std::alloc::Global;
 
 /// The events that these arguments spell.

@@ -3,8 +3,8 @@
 use crate::desks::desk_after;
 use crate::error::CallError;
 use crate::texts::{text, year};
-use itip_lines::Text;
 use itip_items::{Item, Key};
+use itip_lines::Text;
 use itip_moment::{Moment, read_moment};
 use itip_state::{ItemsOfUid, State};
 use itip_todo::{Uid, attendee_key};

@@ -19,9 +19,7 @@ pub(crate) fn answer(
         ("read_lines", [text]) => read(alloc, text),
         ("count_lines", [text]) => counted(alloc, text),
         ("write_lines", [before, text]) => written(alloc, before, text),
-        ("show_bad_line", [number]) => {
-            bad_line(alloc, count(number)?)
-        }
+        ("show_bad_line", [number]) => { bad_line(alloc, count(number)?) }
         ("show_no_memory_for_lines", []) => error(alloc, &LineError::NoMemory),
         _ => Err(CallError::NoSuchCall),
     }

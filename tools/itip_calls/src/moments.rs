@@ -9,7 +9,9 @@
 //! A MOMENT is written as its text, after its TZID and a colon where it has one.
 
 use crate::error::CallError;
-use itip_moment::{Day, Moment, Stamp, read_date, read_moment, read_stamp, write_moment, write_stamp};
+use itip_moment::{
+    Day, Moment, Stamp, read_date, read_moment, read_stamp, write_moment, write_stamp,
+};
 use std::alloc::Global;
 
 pub(crate) fn answer(alloc: Global, word: &str, texts: &[&str]) -> Result<Vec<u8>, CallError> {

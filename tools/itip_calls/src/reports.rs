@@ -3,7 +3,9 @@
 use crate::error::CallError;
 use crate::texts::{shown, state, text};
 use crate::views::{rows_of, window};
-use itip_report::{cancelled, load_by_attendee, next_seq, orphans, progress, refresh_wanted, resend};
+use itip_report::{
+    cancelled, load_by_attendee, next_seq, orphans, progress, refresh_wanted, resend,
+};
 use itip_todo::Uid;
 use std::alloc::Global;
 

@@ -6,8 +6,8 @@ use crate::narrow::Narrow;
 use crate::pieces::Pieces;
 use crate::texts::{count, text, year};
 use itip_script::read_script;
-use itip_world::run_script;
 use itip_streams::{StreamFault, write_output};
+use itip_world::run_script;
 use std::alloc::{AllocError, Global};
 
 pub(crate) fn answer(
