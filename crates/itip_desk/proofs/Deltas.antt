@@ -13,7 +13,7 @@ use Rattle.itip_state.specs.Kept.{AreKept, IsKept, KeepSame, Moves}
 use Rattle.itip_state.proofs.Members.{by_bool}
 use Rattle.itip_state.proofs.Keeping.{Covers, covers_kept, covers_itself, kept_again, kept_of_parts, kept_iff, same_absorbed}
 use Rattle.itip_desk.specs.Desk.{Shown, IsDeskOf, IsDeltaOf, CarriesAfter}
-use Rattle.itip_desk.specs.Heard.{heard}
+use Rattle.itip_desk.specs.HeardSteps.{heard}
 use Rattle.itip_desk.specs.Ticks.{TickStep, Ticks, MovedAfter, TellsAfter}
 use Rattle.itip_desk.proofs.Steps.{tick_once, step_rises}
 use Rattle.itip_desk.proofs.Told.{keep_same_stable, kept_alike}

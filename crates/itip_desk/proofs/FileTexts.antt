@@ -15,14 +15,14 @@ use Rattle.itip_message.specs.declared.error.MessageRefusal.{MessageRefusal}
 use Rattle.itip_state.specs.Kept.{AreKept, IsKept, SameItems, IsItemsOf}
 use Rattle.itip_state.proofs.Keeping.{kept_again, kept_same}
 use Rattle.itip_state.proofs.Members.{none_in, cons_cases, cons_first, cons_later, all_each}
-use Rattle.itip_desk.specs.Delta.{AreMessages, ReadsDelta}
+use Rattle.itip_desk.specs.DeltaFormat.{AreMessages, ReadsDelta}
 use Rattle.itip_desk.specs.Desk.{Shown, IsDeskOf, IsDeltaOf}
 use Rattle.itip_desk.specs.Ticks.{Ticks}
 use Rattle.itip_desk.specs.DeskFile.{message_text, messages_text, moved_at, head_of, begins_text, HasNumber}
 use Rattle.itip_desk.specs.DeskFile.{NamesOtherForm, IsFileOf, IsTold, TellsDesk, AreAlike, RefusesFile, IfFileRefused}
 use Rattle.itip_desk.specs.FileReading.{IsHead, IsNoPart, moves_at, ReadsParts, TellsTick, TellsMove, FileSoFar, ReadsFile, IsDeskOfParts}
 use Rattle.itip_desk.specs.FileReading.{AddsPart, ReachTick, first_text}
-use Rattle.itip_desk.specs.Moves.{tick_at, last_move, AreMovesTo}
+use Rattle.itip_desk.specs.MovedSince.{tick_at, last_move, AreMovesTo}
 use Rattle.itip_desk.specs.Octets.{AscendOctets}
 use Rattle.itip_desk.specs.declared.error.FileError.{FileError}
 use Rattle.itip_desk.specs.declared.error.FileError.TheVariants as error

@@ -18,7 +18,7 @@ use Rattle.itip_state.proofs.Members.{by_bool, none_in, cons_cases, cons_first, 
 use Rattle.itip_desk.specs.Desk.{Shown, CarriesAfter, IsCarriedOn}
 use Rattle.itip_desk.specs.DeskFile.{IsTold}
 use Rattle.itip_desk.specs.Ticks.{TickStep}
-use Rattle.itip_desk.specs.Moves.{tick_at, AreTicks}
+use Rattle.itip_desk.specs.MovedSince.{tick_at, AreTicks}
 use Rattle.itip_desk.proofs.Steps.{step_rises}
 use Rattle.itip_desk.proofs.Ticking.{uid_cmp}
 

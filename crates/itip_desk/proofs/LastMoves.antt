@@ -12,7 +12,7 @@ use Rattle.std.proofs.lemmas.Map.Lookups.{exact_bytes}
 use Rattle.itip_state.proofs.Lookups.{one_key, itself}
 use Rattle.itip_state.proofs.Members.{by_bool, none_in, cons_cases, cons_first, cons_later}
 use Rattle.itip_desk.specs.FileReading.{ReachTick}
-use Rattle.itip_desk.specs.Moves.{tick_at, move_cmp, has_move, AreInOrder, AreTicks, AreMovesTo, CarriesLast, last_move}
+use Rattle.itip_desk.specs.MovedSince.{tick_at, move_cmp, has_move, AreInOrder, AreTicks, AreMovesTo, CarriesLast, last_move}
 use Rattle.itip_desk.proofs.Ticking.{Carried, uid_cmp, move_put}
 
 one_uid : (q u : List ℕ) → is_eq (uid_cmp q u) ≡ true → q ≡ u

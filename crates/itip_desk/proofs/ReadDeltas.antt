@@ -31,7 +31,7 @@ use Rattle.itip_state.proofs.Members.{no_pairs}
 use Rattle.itip_state.proofs.OneOrder.{less_one_way, same_ascending}
 use Rattle.itip_desk.specs.Octets.{AscendOctets}
 use Rattle.itip_message.specs.Scanned.{begins_blank, lines_of, ends_calendar, groups_of, texts_of, messages_of, CutsMessage}
-use Rattle.itip_desk.specs.Delta.{delta_octets, AreMessages, FirstRefused, all_of, ReadsDelta, RefusesDelta, Continues}
+use Rattle.itip_desk.specs.DeltaFormat.{delta_octets, AreMessages, FirstRefused, all_of, ReadsDelta, RefusesDelta, Continues}
 use Rattle.itip_message.proofs.Cuts.{cut_by_scan}
 use Rattle.itip_message.proofs.Folded.{contents_lines, contents_end_none}
 use Rattle.itip_message.proofs.Messages.{texts_end}

@@ -9,7 +9,7 @@ use Rattle.itip_items.specs.declared.item.Item.{Item}
 use Rattle.itip_items.proofs.SameItem.{same_item}
 use Rattle.itip_message.proofs.SomeMessage.{some_message}
 use Rattle.itip_state.specs.Kept.{IsItemsOf}
-use Rattle.itip_desk.specs.Delta.{AreMessages, FirstRefused, all_of, ReadsDelta, RefusesDelta}
+use Rattle.itip_desk.specs.DeltaFormat.{AreMessages, FirstRefused, all_of, ReadsDelta, RefusesDelta}
 use Rattle.itip_message.specs.Scanned.{messages_of}
 use Rattle.itip_message.proofs.Cuts.{cut_by_scan}
 

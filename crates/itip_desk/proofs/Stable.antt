@@ -12,7 +12,7 @@ use Rattle.itip_items.proofs.Keys.{told_bytes}
 use Rattle.itip_state.specs.Kept.{AreKept, IsKept, KeepSame, Moves}
 use Rattle.itip_state.proofs.Members.{by_bool, none_in, cons_cases}
 use Rattle.itip_desk.specs.Desk.{Shown, IsDeskOf, CarriesAfter}
-use Rattle.itip_desk.specs.Heard.{heard}
+use Rattle.itip_desk.specs.HeardSteps.{heard}
 use Rattle.itip_desk.specs.Ticks.{TickStep, Ticks, MovedAfter}
 use Rattle.itip_desk.proofs.Deltas.{carries}
 use Rattle.itip_desk.proofs.Steps.{tick_once}

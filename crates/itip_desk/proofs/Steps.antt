@@ -12,7 +12,7 @@ use Rattle.itip_state.proofs.Keeping.{same_absorbed}
 use Rattle.itip_state.proofs.Members.{cons_cases}
 use Rattle.itip_state.proofs.News.{MovesWhatItHas}
 use Rattle.itip_desk.specs.Desk.{Shown, CarriesAfter, IsDeskOf}
-use Rattle.itip_desk.specs.Heard.{heard, AreHeard}
+use Rattle.itip_desk.specs.HeardSteps.{heard, AreHeard}
 use Rattle.itip_desk.specs.Ticks.{TickStep, Ticks, MovedAfter}
 
 -- one more step is heard last

@@ -28,7 +28,7 @@ use Rattle.itip_state.proofs.Lookups.{one_key, itself}
 use Rattle.itip_state.proofs.Listing.{listed_in, in_listed}
 use Rattle.itip_view.proofs.Showing.{into_filter}
 use Rattle.itip_desk.specs.Desk.{Shown, CarriesAfter, IsCarriedOn, IsDeltaOf}
-use Rattle.itip_desk.specs.Moves.{is_listed, tick_at, move_cmp, has_move, AreInOrder, AreTicks, AreUpTo, HavePlaces}
+use Rattle.itip_desk.specs.MovedSince.{is_listed, tick_at, move_cmp, has_move, AreInOrder, AreTicks, AreUpTo, HavePlaces}
 use Rattle.itip_desk.proofs.Steps.{CarryStep}
 
 abbrev pub uid_cmp : List ℕ → List ℕ → Ordering

@@ -9,7 +9,7 @@ use Rattle.itip_items.specs.contracts.item.Item as item
 use Rattle.itip_items.specs.declared.item.Item.{Item}
 use Rattle.itip_join.specs.KeyByKey.{value_at}
 use Rattle.itip_state.specs.Kept.{AreKept, KeepSame, Moves}
-use Rattle.itip_desk.specs.Heard.{heard}
+use Rattle.itip_desk.specs.HeardSteps.{heard}
 use Rattle.itip_desk.specs.Ticks.{Ticks, MovedAfter}
 use Rattle.itip_desk.specs.Octets.{AscendOctets}
 

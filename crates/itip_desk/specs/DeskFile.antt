@@ -10,7 +10,7 @@ use Rattle.itip_items.specs.KeyParts.{uid_of}
 use Rattle.itip_items.specs.declared.item.Item.{Item}
 use Rattle.itip_state.specs.Kept.{AreKept, IsItemsOf, SameItems}
 use Rattle.itip_desk.specs.Desk.{Shown}
-use Rattle.itip_desk.specs.Moves.{tick_at}
+use Rattle.itip_desk.specs.MovedSince.{tick_at}
 use Rattle.itip_desk.specs.declared.file_text.FileHead.{FileHead}
 use Rattle.itip_desk.specs.declared.refusal.FileRefusal.{FileRefusal}
 use Rattle.itip_desk.specs.declared.refusal.FileRefusal.TheVariants.{OtherForm, Broken, Unwritten}

@@ -7,7 +7,7 @@ use Rattle.itip_state.specs.Kept.{AreKept}
 use Rattle.itip_message.specs.Message.{ReadsMessage}
 use Rattle.itip_message.specs.Scanned.{messages_of}
 use Rattle.itip_desk.specs.Desk.{Shown}
-use Rattle.itip_desk.specs.Moves.{CarriesLast}
+use Rattle.itip_desk.specs.MovedSince.{CarriesLast}
 use Rattle.itip_desk.specs.DeskFile.{parameter_text, version_text, message_text, digits_value, HasNumber, NamesOtherForm}
 use Rattle.itip_desk.specs.declared.file_text.FileHead.{FileHead}
 use Rattle.itip_desk.specs.declared.file_reading.FileParts.{FileParts}

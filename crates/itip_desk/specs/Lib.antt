@@ -5,11 +5,11 @@ pub mod Numbers
 pub mod Entries
 pub mod Index
 pub mod Found
-pub mod Heard
+pub mod HeardSteps
 pub mod Ticks
 pub mod Desk
-pub mod Moves
-pub mod Delta
+pub mod MovedSince
+pub mod DeltaFormat
 pub mod Refusals
 pub mod Listed
 pub mod WrittenRows

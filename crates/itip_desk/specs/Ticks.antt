@@ -4,7 +4,7 @@ use Rattle.std.specs.List.{Contains}
 use Rattle.itip_items.specs.KeyParts.{uid_of}
 use Rattle.itip_items.specs.declared.item.Item.{Item}
 use Rattle.itip_state.specs.Kept.{KeepSame, Moves}
-use Rattle.itip_desk.specs.Heard.{heard}
+use Rattle.itip_desk.specs.HeardSteps.{heard}
 
 -- a step that moves a UID raises the tick by one, and no other does
 abbrev pub TickStep : List Item → List Item → ℕ → ℕ → Type 0

@@ -8,7 +8,7 @@ ghost use Rattle.itip_view.specs.declared.window.Window.{Window};
 use crate::batch::Batch;
 use crate::error::DeskError;
 use crate::indexed::IndexedState;
-use crate::moves::MovedUids;
+use crate::moved_since::MovedUids;
 use itip_state::{SharedItem, State, uids};
 use itip_todo::Uid;
 use itip_view::{RowsByUid, ViewError, Wanted, Window, sorted_uids};
@@ -64,7 +64,7 @@ pub struct Desk {
 
 impl Model for Desk {
     ghost use Rattle.itip_desk.specs.Desk.{Shown, shown_code};
-    ghost use Rattle.itip_desk.specs.Moves.{AreTicks, AreUpTo};
+    ghost use Rattle.itip_desk.specs.MovedSince.{AreTicks, AreUpTo};
 
     ghost Value = { Shown };
 
@@ -78,7 +78,7 @@ impl Model for Desk {
 impl Desk {
     ghost use Rattle.itip_state.specs.Kept.{AreKept, AreMoved, ArePartOf, Moves, HasEachOnce};
     ghost use Rattle.itip_desk.specs.Desk.{IsDeskOf, IsDeltaOf, IsCarriedOn};
-    ghost use Rattle.itip_desk.specs.Moves.{tick_at, AreMovesTo, CarriesLast};
+    ghost use Rattle.itip_desk.specs.MovedSince.{tick_at, AreMovesTo, CarriesLast};
     ghost use Rattle.itip_desk.specs.DeskFile.{IsTold};
     ghost use Rattle.itip_desk.specs.Ticks.{TickStep};
     ghost use Rattle.itip_state.specs.Order.{IsBelow};

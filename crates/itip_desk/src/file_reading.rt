@@ -2,7 +2,7 @@
 ghost use Rattle.std.specs.Prelude.{◌≡◌, ◌↔◌, ◌==◌, ◌++◌, ◌<◌, ◌^◌, ℕ, List, Some, codes, IsTrue, IfOk, IfErr, OnOk, IfSome, IfNone};
 ghost use Rattle.std.specs.List.{list_any};
 ghost use Rattle.std.specs.Option.{option_copied};
-ghost use Rattle.itip_desk.specs.Moves.{AreMovesTo};
+ghost use Rattle.itip_desk.specs.MovedSince.{AreMovesTo};
 ghost use Rattle.itip_desk.specs.DeskFile.{TellsDesk, RefusesFile, IfFileRefused, HasNumber, begins_text};
 ghost use Rattle.itip_desk.specs.FileReading.{ReadsFile, AddsPart, IsNoPart, IsDeskOfParts, TellsTick, TellsMove, FollowsProduct};
 ghost use Rattle.itip_desk.specs.FileReading.{first_text, moves_at, ReachTick};

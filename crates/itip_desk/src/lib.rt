@@ -3,7 +3,7 @@
 #![tactic(auto)]
 
 mod batch;
-mod delta;
+mod delta_format;
 mod desk;
 mod entry;
 mod error;
@@ -17,13 +17,13 @@ mod indexed;
 mod laws;
 mod listed;
 mod listed_lines;
-mod moves;
+mod moved_since;
 mod number;
 mod refusal;
 mod row_writing;
 
 pub use batch::Batch;
-pub use delta::{read_batch, read_delta, write_delta};
+pub use delta_format::{read_batch, read_delta, write_delta};
 pub use desk::{Changed, Desk};
 pub use error::{DeskError, FileError};
 pub use file_reading::read_desk;

@@ -2,7 +2,7 @@
 use Rattle.std.proofs.Common.{◌≡◌, ◌≢◌, ◌∙◌, sym, ap, refl, subst, ℕ, ◌⊎◌, ◌↔◌, List, [], ◌∷◌, ◌++◌, inl, inr, append_assoc, append-nil}
 use Rattle.std.specs.List.{Contains, AllByRecursion, concat}
 use Rattle.std.proofs.lemmas.List.Elements.{All-nil, Contains-append_cases, Contains-append_left, Contains-append_right}
-use Rattle.itip_lines.specs.Cutting.{lines_of}
+use Rattle.itip_lines.specs.UnfoldedLines.{lines_of}
 use Rattle.itip_lines.specs.Stretches.{LacksBlank}
 use Rattle.itip_state.proofs.Members.{none_in, cons_cases, cons_first, cons_later}
 use Rattle.itip_message.specs.Cutting.{IsCalendar, AreApart, IsRest, unless_empty, IsCutInto}

@@ -13,7 +13,7 @@ use Rattle.itip_state.specs.Kept.{IsKept}
 use Rattle.itip_state.proofs.Members.{none_in, cons_cases, cons_first, cons_later, all_each, no_pairs}
 use Rattle.itip_desk.specs.Octets.{AscendOctets}
 use Rattle.itip_desk.proofs.Told.{told_kept}
-use Rattle.itip_desk.specs.Delta.{delta_octets}
+use Rattle.itip_desk.specs.DeltaFormat.{delta_octets}
 use Rattle.itip_inbox.specs.Compaction.{AreKeptOctets}
 
 either_in : (x : Item) (xs : List Item) (i : Item) → (x ≡ i) ⊎ Contains xs i → Contains (x ∷ xs) i

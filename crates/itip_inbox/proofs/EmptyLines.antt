@@ -3,9 +3,9 @@ use Rattle.std.proofs.Common.{◌≡◌, ◌≢◌, ◌∙◌, sym, ap, refl, su
 use Rattle.std.proofs.Common.{length, map, arith, inl, inr, append_assoc, length-append}
 use Rattle.std.specs.List.{Contains, AllByRecursion, AllZip, concat}
 use Rattle.std.proofs.lemmas.List.Elements.{All-nil}
-use Rattle.itip_lines.specs.Cutting.{Break, Piece, IsPiece, IsCutting, break_bytes, joined, unfolded, unfolded_onto, lines_of}
-use Rattle.itip_lines.specs.Cutting.{without_empty}
-use Rattle.itip_lines.specs.Cutting.Break.{lf, crlf}
+use Rattle.itip_lines.specs.UnfoldedLines.{Break, Piece, IsPiece, IsCutting, break_bytes, joined, unfolded, unfolded_onto, lines_of}
+use Rattle.itip_lines.specs.UnfoldedLines.{without_empty}
+use Rattle.itip_lines.specs.UnfoldedLines.Break.{lf, crlf}
 use Rattle.itip_lines.specs.Reading.{text_limit}
 use Rattle.itip_lines.specs.Stretches.{LacksBlank, lines_onto}
 use Rattle.itip_lines.proofs.Cuttings.{lines_of_cut}

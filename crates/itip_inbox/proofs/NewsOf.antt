@@ -10,7 +10,7 @@ use Rattle.itip_state.specs.Told.{IsTold, IsOutdone, AreNews}
 use Rattle.itip_state.proofs.Best.{later_transitive, not_later_itself}
 use Rattle.itip_state.proofs.Keeping.{Covers, best_part, kept_part, kept_of_kept_lem, kept_again, kept_iff}
 use Rattle.itip_state.proofs.News.{news_kept}
-use Rattle.itip_desk.specs.Delta.{delta_octets}
+use Rattle.itip_desk.specs.DeltaFormat.{delta_octets}
 use Rattle.itip_desk.proofs.ReadDeltas.{one_order, known_by_octets}
 use Rattle.itip_desk.proofs.Told.{told_kept}
 use Rattle.itip_streams.specs.Written.{AppendsFront, WritesOutput}

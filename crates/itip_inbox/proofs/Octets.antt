@@ -1,7 +1,7 @@
 -- The bytes of items, one after another.
 use Rattle.std.proofs.Common.{◌≡◌, ◌∙◌, sym, ap, refl, ℕ, List, [], ◌∷◌, ◌++◌, append_assoc, append-nil}
 use Rattle.itip_items.specs.declared.item.Item.{Item}
-use Rattle.itip_desk.specs.Delta.{delta_octets}
+use Rattle.itip_desk.specs.DeltaFormat.{delta_octets}
 
 pub octets_none : delta_octets [] ≡ []
 unfolding delta_octets

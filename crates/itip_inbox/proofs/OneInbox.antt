@@ -6,7 +6,7 @@ use Rattle.itip_message.specs.declared.error.MessageRefusal.{MessageRefusal}
 use Rattle.itip_items.specs.declared.item.Item.{Item}
 use Rattle.itip_message.proofs.OneMessage.{one_message, one_cause, message_apart}
 use Rattle.itip_state.specs.Kept.{SameItems}
-use Rattle.itip_desk.specs.Delta.{delta_octets}
+use Rattle.itip_desk.specs.DeltaFormat.{delta_octets}
 use Rattle.itip_desk.proofs.ReadDeltas.{one_order}
 use Rattle.itip_message.proofs.OneCut.{one_cut}
 use Rattle.itip_inbox.specs.declared.refused.RefusedMessage.{RefusedMessage}

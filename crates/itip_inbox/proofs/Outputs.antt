@@ -17,7 +17,7 @@ use Rattle.itip_view.specs.declared.window.Window.{Window}
 use Rattle.itip_view.proofs.OneList.{one_where, few_or_too_many}
 use Rattle.itip_view.proofs.Left.{left_where, too_many_where}
 use Rattle.itip_view.proofs.OfKept.{rows_where_of_kept, many_where_of_kept}
-use Rattle.itip_desk.specs.Delta.{delta_octets}
+use Rattle.itip_desk.specs.DeltaFormat.{delta_octets}
 use Rattle.itip_desk.specs.Refusals.{refused_text}
 use Rattle.itip_desk.proofs.ReadDeltas.{one_order}
 use Rattle.itip_streams.specs.Written.{AppendsFront, MovesOut, WritesOutput}

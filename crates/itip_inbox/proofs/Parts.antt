@@ -13,7 +13,7 @@ use Rattle.itip_state.proofs.Members.{none_in}
 use Rattle.itip_view.specs.Blocks.{joined}
 use Rattle.itip_message.specs.Cutting.{IsCutInto}
 use Rattle.itip_message.proofs.Cuts.{cut_by_scan}
-use Rattle.itip_desk.specs.Delta.{delta_octets}
+use Rattle.itip_desk.specs.DeltaFormat.{delta_octets}
 use Rattle.itip_desk.proofs.ReadDeltas.{messages_written, one_order}
 use Rattle.itip_inbox.specs.Inbox.{Placed, placed_from, placed_of, AreAnswers, heard_of, refusals_at, IsInbox, is_some_refused}
 use Rattle.itip_inbox.specs.Compaction.{AreKeptOctets, IsCompaction, AreCompactions, TellsItem, TellSameItems, all_inputs}

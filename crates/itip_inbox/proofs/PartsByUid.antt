@@ -17,7 +17,7 @@ use Rattle.itip_view.specs.declared.window.Window.{Window}
 use Rattle.itip_view.proofs.Apart.{kept_of_two, apart_from_all}
 use Rattle.itip_view.proofs.Merging.{merged_blocks}
 use Rattle.itip_view.proofs.OneList.{one_where, rows_over}
-use Rattle.itip_desk.specs.Delta.{delta_octets}
+use Rattle.itip_desk.specs.DeltaFormat.{delta_octets}
 use Rattle.itip_desk.proofs.ReadDeltas.{one_order}
 use Rattle.itip_inbox.specs.Compaction.{HaveSameCompaction, IsCompaction, TellsItem, all_inputs}
 use Rattle.itip_inbox.specs.Inbox.{IsInbox, is_some_refused}

@@ -2,7 +2,7 @@
 use Rattle.std.proofs.Common.{◌≡◌, ◌∙◌, sym, ap, refl, subst, ℕ, ◌+◌, ◌≤◌, Bool, true, false, cond, List, [], ◌∷◌, ◌++◌, length, map}
 use Rattle.std.specs.Prelude.{nat_lt, codes, Option, Some, None, Result, Ok, Err, ◌&&◌}
 use Rattle.std.proofs.lemmas.List.{length-map, map-append}
-use Rattle.itip_lines.specs.Cutting.{NumberedText, numbered_lines_of, texts_of, without_empty}
+use Rattle.itip_lines.specs.UnfoldedLines.{NumberedText, numbered_lines_of, texts_of, without_empty}
 use Rattle.itip_lines.specs.Reading.{text_limit, AreLines, IsGood, line_at, plain_lines, Reads}
 use Rattle.itip_lines.specs.Stretches.{lines_onto}
 use Rattle.itip_lines.specs.declared.line.Line.{Line}

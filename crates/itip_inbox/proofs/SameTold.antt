@@ -11,7 +11,7 @@ use Rattle.itip_view.specs.declared.window.Window.{Window}
 use Rattle.itip_view.proofs.Alike.{KeepAlike, alike_back}
 use Rattle.itip_view.proofs.OfKept.{row_of_same}
 use Rattle.itip_view.proofs.SameAsked.{rows_same, many_same}
-use Rattle.itip_desk.specs.Delta.{delta_octets}
+use Rattle.itip_desk.specs.DeltaFormat.{delta_octets}
 use Rattle.itip_report.specs.declared.report_name.ReportName.{ReportName}
 use Rattle.itip_report.proofs.NamedReports.{report_alike}
 use Rattle.itip_inbox.specs.declared.refused.RefusedMessage.{RefusedMessage}

@@ -10,7 +10,7 @@ use Rattle.itip_message.specs.declared.error.MessageRefusal.{MessageRefusal}
 use Rattle.itip_message.specs.Refusals.{of_lines}
 use Rattle.itip_message.proofs.OneMessage.{one_message, one_cause, message_apart}
 use Rattle.itip_state.specs.Kept.{IsItemsOf}
-use Rattle.itip_desk.specs.Delta.{GivesBatch}
+use Rattle.itip_desk.specs.DeltaFormat.{GivesBatch}
 use Rattle.itip_desk.specs.Refusals.{refused_text}
 use Rattle.itip_streams.specs.Written.{AppendsFront, WritesOutput}
 use Rattle.itip_streams.specs.declared.fault.StreamFault.{StreamFault}

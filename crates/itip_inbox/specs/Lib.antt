@@ -1,5 +1,5 @@
 pub use Rattle.itip_message.specs.Cutting
-pub use Rattle.itip_desk.specs.Delta
+pub use Rattle.itip_desk.specs.DeltaFormat
 pub use Rattle.itip_desk.specs.Refusals
 pub mod Inbox
 pub mod Compaction

@@ -3,7 +3,7 @@ use Rattle.std.specs.Prelude.{◌≡◌, ◌↔◌, ℕ, Bool, ◌||◌, List, �
 use Rattle.std.specs.List.{Contains}
 use Rattle.itip_items.specs.declared.item.Item.{Item}
 use Rattle.itip_state.specs.Kept.{IsKept}
-use Rattle.itip_desk.specs.Delta.{delta_octets}
+use Rattle.itip_desk.specs.DeltaFormat.{delta_octets}
 use Rattle.itip_desk.specs.Octets.{AscendOctets}
 use Rattle.itip_inbox.specs.Inbox.{IsInbox, is_some_refused}
 use Rattle.itip_inbox.specs.declared.refused.RefusedMessage.{RefusedMessage}

@@ -5,7 +5,7 @@ use Rattle.itip_items.specs.declared.item.Item.{Item}
 use Rattle.itip_message.specs.Message.{RefusesMessage}
 use Rattle.itip_message.specs.RefusalNumbers.{number_of}
 use Rattle.itip_message.specs.declared.error.MessageRefusal.{MessageRefusal}
-use Rattle.itip_desk.specs.Delta.{delta_octets, GivesBatch}
+use Rattle.itip_desk.specs.DeltaFormat.{delta_octets, GivesBatch}
 use Rattle.itip_desk.specs.Refusals.{refused_text}
 
 -- how many items there are, and their bytes

@@ -1,7 +1,7 @@
 //! The bytes of what is kept of some inputs.
 ghost use Rattle.std.specs.Prelude.{◌≢◌, ℕ, Bool, List, IfOk, IfErr, OnOk, OnErr, IsErrOf};
 ghost use Rattle.std.specs.Io.KnownBytes.{Appends, Keeps};
-ghost use Rattle.itip_desk.specs.Delta.{delta_octets};
+ghost use Rattle.itip_desk.specs.DeltaFormat.{delta_octets};
 ghost use Rattle.itip_streams.specs.Written.{AppendsFront, WritesOutput};
 ghost use Rattle.itip_inbox.specs.Compaction.{IsCompaction};
 ghost use Rattle.itip_inbox.specs.Inbox.{AreInputs};

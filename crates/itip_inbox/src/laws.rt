@@ -9,7 +9,7 @@ ghost use Rattle.itip_view.specs.declared.row.Row.{Row};
 ghost use Rattle.itip_view.specs.declared.wanted.Wanted.{Wanted};
 ghost use Rattle.itip_view.specs.declared.window.Window.{Window};
 ghost use Rattle.itip_report.specs.declared.report_name.ReportName.{ReportName};
-ghost use Rattle.itip_desk.specs.Delta.{delta_octets};
+ghost use Rattle.itip_desk.specs.DeltaFormat.{delta_octets};
 ghost use Rattle.itip_inbox.specs.Compaction.{IsCompaction, AreCompactions, IsPartedInto, all_inputs};
 ghost use Rattle.itip_inbox.specs.Compaction.{HaveSameMessages, TellsItem, TellSameItems};
 ghost use Rattle.itip_inbox.specs.Gaps.{IsPartedInGaps, HaveShortMessages};

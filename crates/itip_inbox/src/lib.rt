@@ -22,6 +22,7 @@ mod json_records;
 mod lacking;
 mod laws;
 mod list_form;
+mod list_or_refusal;
 mod messages;
 mod open_inbox;
 mod refused;
@@ -33,7 +34,6 @@ mod shard;
 mod shards;
 mod shown;
 mod source_reading;
-mod tasks;
 mod texts;
 mod waiting;
 mod watch;
@@ -49,10 +49,10 @@ pub use laws::{
     only_items_matter, outputs_of_parts,
 };
 pub use list_form::{ListForm, PageList, TextList};
+pub use list_or_refusal::list;
 pub use refused::RefusedMessage;
 pub use reports::report;
 pub use sent::{Sent, send};
 pub use shown::{MAX_OCTETS, TOO_LONG, check};
 pub use source_reading::read_sources;
-pub use tasks::list;
 pub use watch::Watch;

@@ -5,9 +5,10 @@ use Rattle.std.specs.List.{AllByRecursion}
 use Rattle.std.proofs.lemmas.List.{append_cancel_left}
 use Rattle.std.proofs.lemmas.List.Elements.{All-append, All-cons, All-nil}
 use Rattle.std.proofs.lemmas.Bool.Decides.{eqb_tells}
-use Rattle.itip_lines.specs.Cutting.{Break, Piece, IsPiece, IsCutting, HasNoLf, break_bytes, joined, stretches, unfolded, without_empty}
-use Rattle.itip_lines.specs.Cutting.{lines_of, numbered, numbered_lines_of, with_octets}
-use Rattle.itip_lines.specs.Cutting.Break.{lf, crlf}
+use Rattle.itip_lines.specs.UnfoldedLines.{Break, Piece, IsPiece, IsCutting, HasNoLf, break_bytes, joined}
+use Rattle.itip_lines.specs.UnfoldedLines.{stretches, unfolded, without_empty}
+use Rattle.itip_lines.specs.UnfoldedLines.{lines_of, numbered, numbered_lines_of, with_octets}
+use Rattle.itip_lines.specs.UnfoldedLines.Break.{lf, crlf}
 use Rattle.itip_lines.specs.Parts.{begins}
 use Rattle.itip_lines.specs.Stretches.{stretches_of, onto_stretches, lines_onto, numbered_stretches, texts_onto}
 use Rattle.itip_lines.proofs.Stretches.{stretches_of_break, stretches_of_last}

@@ -9,7 +9,7 @@ use Rattle.std.proofs.lemmas.Str.{IsUtf8-from_is_utf8, is_utf8-from_IsUtf8}
 use Rattle.itip_lines.specs.Octets.{is_name_octet, is_value_octet, is_quotable_octet, is_plain_octet}
 use Rattle.itip_lines.specs.Lawful.{line_limit}
 use Rattle.itip_lines.specs.Spelling.{IsTail, Spells}
-use Rattle.itip_lines.specs.Cutting.{NumberedText, numbered_lines_of}
+use Rattle.itip_lines.specs.UnfoldedLines.{NumberedText, numbered_lines_of}
 use Rattle.itip_lines.specs.Parts.{IsRun, begins, ends_param, CutsValue, LacksValue, ReadsValues, LacksValues, ReadsParam, LacksParam}
 use Rattle.itip_lines.specs.Parts.{LacksTail, LacksLine}
 use Rattle.itip_lines.specs.Parts.CutsValue.{quoted, plain}

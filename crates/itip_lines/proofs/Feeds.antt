@@ -6,7 +6,7 @@ use Rattle.std.proofs.lemmas.Bool.{eq-eqb, eqb-true}
 use Rattle.std.proofs.lemmas.List.{drop_more}
 use Rattle.std.proofs.lemmas.List.Elements.{All-from_get_or}
 use Rattle.memchr.specs.Find.{IsFirstByte, is_byte}
-use Rattle.itip_lines.specs.Cutting.{HasNoLf}
+use Rattle.itip_lines.specs.UnfoldedLines.{HasNoLf}
 
 pub no_feed : (text : List ℕ) → IsFirstByte (is_byte 10) text None → HasNoLf text
 no_feed text none = All-from_get_or (λ b. b ≢ 10) text 0 (λ k within is. none k (omega arith) within (eq-eqb _ _ is))

@@ -11,7 +11,7 @@ use Rattle.std.proofs.lemmas.Str.{IsUtf8-append, IsUtf8-nil, IsUtf8-encode, IsUt
 use Rattle.std.proofs.lemmas.Str.Ascii.{IsAscii-cons, IsAscii-nil}
 use lib.Utf8.{encode, encodes, scalars, next}
 use Rattle.itip_lines.specs.Writing.{following, fits, folded, unfolded_text, written}
-use Rattle.itip_lines.specs.Folding.{IsFull, AreFoldedPieces, with_breaks}
+use Rattle.itip_lines.specs.FoldedPieces.{IsFull, AreFoldedPieces, with_breaks}
 use Rattle.itip_lines.specs.declared.line.Line.{Line}
 use Rattle.itip_lines.proofs.Roundtrip.{utf8_line}
 

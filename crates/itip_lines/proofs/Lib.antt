@@ -9,7 +9,7 @@ pub mod ValueLists
 pub mod ParamLists
 pub mod Lines
 pub mod Feeds
-pub mod Scans
+pub mod UnfoldRuns
 pub mod Cuttings
 pub mod Utf8Lines
 pub mod Written

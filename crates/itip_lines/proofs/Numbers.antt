@@ -1,7 +1,8 @@
 -- Numbered lines without their numbers are the lines.
 use Rattle.std.proofs.Common.{◌≡◌, ◌∙◌, ap, refl, ℕ, ◌+◌, true, false, cond, List, [], ◌∷◌, ◌++◌}
-use Rattle.itip_lines.specs.Cutting.{Piece, NumberedText, text_at, texts_of, has_octets, with_octets, stretches, unfolded, unfolded_onto}
-use Rattle.itip_lines.specs.Cutting.{numbered, numbered_onto, is_blank, without_empty, lines_of, numbered_lines_of}
+use Rattle.itip_lines.specs.UnfoldedLines.{Piece, NumberedText, text_at, texts_of, has_octets, with_octets}
+use Rattle.itip_lines.specs.UnfoldedLines.{stretches, unfolded, unfolded_onto}
+use Rattle.itip_lines.specs.UnfoldedLines.{numbered, numbered_onto, is_blank, without_empty, lines_of, numbered_lines_of}
 use Rattle.itip_lines.specs.Stretches.{stretches_of, lines_onto, onto_stretches, numbered_stretches, texts_onto}
 
 onto_plain : (at : ℕ) (line : List ℕ) (next : ℕ) (cs : List (List ℕ)) → texts_of (numbered_onto at line next cs) ≡ unfolded_onto line cs

@@ -6,7 +6,7 @@ use Rattle.std.proofs.lemmas.Bool.{and_parts}
 use Rattle.std.proofs.lemmas.List.{append-nil, take_at, drop_at}
 use Rattle.std.proofs.lemmas.Str.{IsUtf8-append, IsUtf8-drop, IsCharBoundary-from_take}
 use lib.Utf8.{encode, encodes, scalars}
-use Rattle.itip_lines.specs.Folding.{IsFoldedPiece, IsFull, AreFoldedPieces}
+use Rattle.itip_lines.specs.FoldedPieces.{IsFoldedPiece, IsFull, AreFoldedPieces}
 use Rattle.itip_lines.proofs.Utf8Parts.{utf8_behind}
 
 -- what follows a text in UTF-8

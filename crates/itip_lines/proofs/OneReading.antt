@@ -1,7 +1,7 @@
 -- A text has one reading or one refusal, and not both.
 use Rattle.std.proofs.Common.{◌≡◌, ◌∙◌, sym, ap, refl, ℕ, ◌+◌, ◌<◌, List, [], ◌∷◌, length, arith, subst, inl, inr, ◌⊎◌}
 use Rattle.std.specs.Prelude.{◌↔◌, Option, Some, None}
-use Rattle.itip_lines.specs.Cutting.{Piece, IsCutting, NumberedText, numbered_lines_of}
+use Rattle.itip_lines.specs.UnfoldedLines.{Piece, IsCutting, NumberedText, numbered_lines_of}
 use Rattle.itip_lines.specs.Lawful.{line_limit}
 use Rattle.itip_lines.specs.Reading.{count_limit, IsWithinLimits, IsGood, plain_lines, AreLines, HasCause, HasRefusal, FirstRefusal, Reads}
 use Rattle.itip_lines.specs.Reading.{ReadsLines, Refused}

@@ -16,7 +16,7 @@ use Rattle.itip_lines.specs.Spelling.{SpellsName, ValueThen, ValuesThen, ParamTh
 use Rattle.itip_lines.specs.declared.line.Param.{Param}
 use Rattle.itip_lines.specs.declared.line.Line.{Line}
 use Rattle.itip_lines.specs.declared.line.NumberedLine.{NumberedLine}
-use Rattle.itip_lines.specs.Cutting.{NumberedText, text_at, texts_of, with_octets, without_empty, numbered_lines_of}
+use Rattle.itip_lines.specs.UnfoldedLines.{NumberedText, text_at, texts_of, with_octets, without_empty, numbered_lines_of}
 use Rattle.itip_lines.specs.Reading.{text_limit, count_limit, IsGood, line_at, plain_lines, AreLines, Reads, ReadsLines}
 use Rattle.itip_lines.specs.Stretches.{LacksBlank, stretches_of, lines_onto, numbered_stretches, texts_onto}
 use Rattle.itip_lines.specs.Writing.{fits, folded, unfolded_text, written, all_written}

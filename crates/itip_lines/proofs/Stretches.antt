@@ -6,7 +6,7 @@ use Rattle.std.specs.List.{slice_split, All, onto_first}
 use Rattle.std.proofs.lemmas.Bool.{ne_eqb}
 use Rattle.std.proofs.lemmas.Bool.Decides.{eqb_tells}
 use Rattle.std.proofs.lemmas.List.Splits.{slice_split_at, slice_split_none, slice_split-cons_no}
-use Rattle.itip_lines.specs.Cutting.{HasNoLf, text_at, texts_of, numbered_onto, is_blank}
+use Rattle.itip_lines.specs.UnfoldedLines.{HasNoLf, text_at, texts_of, numbered_onto, is_blank}
 use Rattle.itip_lines.specs.Stretches.{StripsCr, BeginsWithBlank, LacksBlank, without_cr, without_crs, stretches_of, lines_onto}
 use Rattle.itip_lines.specs.Stretches.{numbered_stretches, texts_onto}
 use Rattle.itip_lines.proofs.Numbers.{texts_plain}

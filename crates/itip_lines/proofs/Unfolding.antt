@@ -8,7 +8,7 @@ use Rattle.std.proofs.lemmas.List.{append-nil}
 use Rattle.std.proofs.lemmas.List.Elements.{All-cons, All-nil}
 use Rattle.itip_lines.specs.Octets.{is_value_octet, is_upper_name_octet}
 use Rattle.itip_lines.specs.Lawful.{IsName, params_text}
-use Rattle.itip_lines.specs.Cutting.{unfolded_onto, is_blank}
+use Rattle.itip_lines.specs.UnfoldedLines.{unfolded_onto, is_blank}
 use Rattle.itip_lines.specs.Stretches.{LacksBlank, stretches_of, onto_stretches, lines_onto}
 use Rattle.itip_lines.specs.Writing.{fits, folded, unfolded_text, written, all_written}
 use Rattle.itip_lines.specs.declared.line.Line.{Line}

@@ -4,10 +4,10 @@ use Rattle.std.specs.List.{AllByRecursion}
 use Rattle.std.specs.Str.{IsUtf8}
 use Rattle.std.proofs.lemmas.Bool.Decides.{nat_tests}
 use Rattle.std.proofs.lemmas.Str.{IsUtf8-append, IsUtf8-nil}
-use Rattle.itip_lines.specs.Cutting.{Break, Piece, break_bytes, joined, stretches, is_blank, text_at, numbered_onto}
-use Rattle.itip_lines.specs.Cutting.Break.{lf, crlf}
+use Rattle.itip_lines.specs.UnfoldedLines.{Break, Piece, break_bytes, joined, stretches, is_blank, text_at, numbered_onto}
+use Rattle.itip_lines.specs.UnfoldedLines.Break.{lf, crlf}
 use Rattle.itip_lines.specs.Stretches.{numbered_stretches, texts_onto}
-use Rattle.itip_lines.specs.ScanSteps.{AreUtf8}
+use Rattle.itip_lines.specs.UnfoldSteps.{AreUtf8}
 use Rattle.itip_lines.proofs.Cuttings.{cutting_of, stretches_of_cut}
 use Rattle.itip_lines.proofs.Utf8Parts.{utf8_before, utf8_from, utf8_behind}
 

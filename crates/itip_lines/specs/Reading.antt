@@ -1,7 +1,7 @@
 -- What a text reads as: its content lines, or why and where it is refused (RFC 5545 3.1; the limits are our own).
 use Rattle.std.specs.Prelude.{◌≡◌, ℕ, ◌+◌, ◌<◌, ◌≤◌, ◌⊎◌, List, [], ◌∷◌, length, map, Some, None}
 use Rattle.std.specs.Str.{IsUtf8}
-use Rattle.itip_lines.specs.Cutting.{Piece, IsCutting, NumberedText, numbered_lines_of}
+use Rattle.itip_lines.specs.UnfoldedLines.{Piece, IsCutting, NumberedText, numbered_lines_of}
 use Rattle.itip_lines.specs.Lawful.{line_limit}
 use Rattle.itip_lines.specs.Spelling.{Spells}
 use Rattle.itip_lines.specs.declared.line.Line.{Line}

@@ -1,10 +1,10 @@
 -- The stretches and lines of a text from a given place on, computed: what one scan finds (our own form).
 use Rattle.std.specs.Prelude.{◌≡◌, ◌≢◌, ◌⊎◌, false, IsTrue, ℕ, ◌+◌, cond, ◌==◌, Option, Some, None, List, [], ◌∷◌, ◌++◌, length}
 use Rattle.std.specs.List.{slice_split}
-use Rattle.itip_lines.specs.Cutting.{NumberedText, numbered_onto, unfolded_onto, is_blank, with_octets}
+use Rattle.itip_lines.specs.UnfoldedLines.{NumberedText, numbered_onto, unfolded_onto, is_blank, with_octets}
 use Rattle.itip_lines.specs.Reading.{AreLines}
 use Rattle.itip_lines.specs.declared.line.NumberedLine.{NumberedLine}
-use Rattle.itip_lines.specs.declared.scan.Rest.{Rest}
+use Rattle.itip_lines.specs.declared.unfold.Rest.{Rest}
 use denote.Ref.{Bor}
 
 -- a stretch before LF, without the CR of its break

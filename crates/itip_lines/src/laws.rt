@@ -1,8 +1,8 @@
 //! Laws of reading and writing. The functions do nothing: their contracts are the laws.
 ghost use Rattle.std.specs.Prelude.{◌≡◌, ◌≤◌, ◌⊎◌, ◌↔◌, ◌∷◌, [], List, ℕ, None, length};
-ghost use Rattle.itip_lines.specs.Cutting.{Piece, IsCutting, lines_of, numbered_lines_of, texts_of};
+ghost use Rattle.itip_lines.specs.UnfoldedLines.{Piece, IsCutting, lines_of, numbered_lines_of, texts_of};
 ghost use Rattle.itip_lines.specs.Reading.{Reads, ReadsLines, Refused, line_at};
-ghost use Rattle.itip_lines.specs.Folding.{AreFoldedPieces, with_breaks};
+ghost use Rattle.itip_lines.specs.FoldedPieces.{AreFoldedPieces, with_breaks};
 ghost use Rattle.itip_lines.specs.Writing.{unfolded_text, written, all_written};
 ghost use Rattle.itip_lines.specs.declared.line.Line.{Line};
 ghost use Rattle.itip_lines.specs.declared.line.NumberedLine.{NumberedLine};

@@ -17,10 +17,10 @@ mod list;
 mod lookup;
 mod params;
 mod read;
-mod scan;
 mod seen_line;
 mod text;
 mod text_list;
+mod unfold;
 mod write;
 
 pub use bytes::Bytes;
@@ -32,10 +32,10 @@ pub use list::ListOf;
 pub use lookup::param_value;
 pub use params::Params;
 pub use read::read_lines;
-pub use scan::cut_lf;
 pub use seen_line::SeenLine;
 pub use text::Text;
 pub use text_list::{TextList, Texts};
+pub use unfold::cut_lf;
 pub use write::{write_line, write_param, write_parts, write_text};
 
 /// An allocation failed.

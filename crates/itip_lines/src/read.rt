@@ -1,18 +1,18 @@
 //! Reading a text of content lines.
 ghost use Rattle.std.specs.Prelude.{◌≡◌, ◌+◌, ◌<◌, ◌≤◌, ◌↔◌, IsTrue, OnOk, IfOk, IfErr, Some, length};
 ghost use Rattle.std.specs.Str.{IsUtf8};
-ghost use Rattle.itip_lines.specs.Cutting.{text_at};
+ghost use Rattle.itip_lines.specs.UnfoldedLines.{text_at};
 ghost use Rattle.itip_lines.specs.Reading.{Reads, Refused, IfRefused, HasRefusal};
 ghost use Rattle.itip_lines.specs.SeenOctets.{octets_of};
 ghost use Rattle.itip_lines.specs.Stretches.{texts_behind};
-ghost use Rattle.itip_lines.specs.ScanSteps.{AreUtf8, PushesLine, ReadsNext, HasNextRefusal, last_number, number_limit};
+ghost use Rattle.itip_lines.specs.UnfoldSteps.{AreUtf8, PushesLine, ReadsNext, HasNextRefusal, last_number, number_limit};
 ghost use Rattle.itip_lines.specs.declared.error.LineError.TheVariants as error;
 
 use crate::error::{LineCause, LineError, LineRefusal};
 use crate::grammar::read_text;
 use crate::line::NumberedLine;
 use crate::line_octets::LineOctets;
-use crate::scan::{End, Rest, cut_stretch, unfold};
+use crate::unfold::{End, Rest, cut_stretch, unfold};
 use simdutf8::is_utf8;
 use std::alloc::Global;
 

@@ -1,6 +1,6 @@
 //! A keeper that publishes several batches at once, and two passes that learn its receipts from a channel, each on a thread of its own.
 ghost use Rattle.std.specs.Prelude.{◌≡◌, IfOk};
-ghost use Rattle.itip_running.specs.Seen.{keeper_pair, pass_pair, receipt_pair};
+ghost use Rattle.itip_running.specs.ContractViews.{keeper_pair, pass_pair, receipt_pair};
 
 use crate::error::CallError;
 use crate::lists::revision;

@@ -1,6 +1,6 @@
 //! Jobs on threads, under a gate that holds workers and keepers.
 ghost use Rattle.std.specs.Prelude.{◌≡◌};
-ghost use Rattle.itip_running.specs.Seen.{pass_pair};
+ghost use Rattle.itip_running.specs.ContractViews.{pass_pair};
 
 use crate::error::CallError;
 use crate::gates::HoldingGate;

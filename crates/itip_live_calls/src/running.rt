@@ -1,7 +1,7 @@
 //! A running desk with two passes, step by step on one thread.
 ghost use Rattle.std.specs.Prelude.{◌≡◌};
 ghost use Rattle.std.specs.Option.{ForSome};
-ghost use Rattle.itip_running.specs.Seen.{keeper_pair, pass_pair, receipt_pair};
+ghost use Rattle.itip_running.specs.ContractViews.{keeper_pair, pass_pair, receipt_pair};
 
 use crate::error::CallError;
 use crate::refusal::note_refusal;

@@ -7,7 +7,7 @@ use Rattle.std.specs.List.{AllByRecursion, concat, list_all, list_any, onto_firs
 use Rattle.std.proofs.lemmas.Bool.{and_parts, or_parts, eqb-true, eqb-false}
 use Rattle.std.proofs.lemmas.List.{length-append}
 use Rattle.std.proofs.lemmas.List.Folds.{list_all-append}
-use Rattle.itip_lines.specs.Cutting.{is_blank}
+use Rattle.itip_lines.specs.UnfoldedLines.{is_blank}
 use Rattle.itip_todo.specs.Participation.{same_text}
 use Rattle.itip_message.specs.Scanned.{begins_blank, ends_line, line_length, lines_of, is_return, said, said_behind, is_empty, ends_calendar}
 use Rattle.itip_message.specs.Scanned.{groups_of, texts_of, messages_of, StaysCut}

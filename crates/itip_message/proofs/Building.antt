@@ -5,7 +5,7 @@ use Rattle.std.specs.Prelude.{codes}
 use Rattle.std.specs.Result.{OnOk, IfErr}
 use Rattle.std.proofs.lemmas.List.{length-append, flat_map_more, take_more}
 use Rattle.std.specs.List.{AllByRecursion, flat_map}
-use Rattle.itip_lines.specs.Cutting.{HasNoLf}
+use Rattle.itip_lines.specs.UnfoldedLines.{HasNoLf}
 use Rattle.itip_lines.specs.Lawful.{IsName}
 use Rattle.itip_lines.specs.Reading as lines
 use Rattle.itip_lines.specs.Reading.{line_at, plain_lines}

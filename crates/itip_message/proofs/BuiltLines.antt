@@ -7,7 +7,7 @@ use Rattle.std.proofs.lemmas.Bool.{and_parts}
 use Rattle.std.proofs.lemmas.Bool.Decides.{nat_tests}
 use Rattle.std.proofs.lemmas.List.Elements.{All-cons, All-nil}
 use Rattle.std.proofs.lemmas.List.Folds.{list_all-append}
-use Rattle.itip_lines.specs.Cutting.{IsCutting, NumberedText, HasNoLf, numbered_lines_of}
+use Rattle.itip_lines.specs.UnfoldedLines.{IsCutting, NumberedText, HasNoLf, numbered_lines_of}
 use Rattle.itip_lines.specs.Lawful.{value_text, params_text, IsName}
 use Rattle.itip_lines.specs.Octets.{is_value_octet, is_quotable_octet, is_separator}
 use Rattle.itip_lines.specs.Reading.{IsGood, line_at, AreLines, Reads}

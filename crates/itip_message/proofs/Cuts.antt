@@ -8,7 +8,7 @@ use Rattle.std.proofs.lemmas.Bool.{and_parts}
 use Rattle.std.proofs.lemmas.Bool.Decides.{eqb_tells}
 use Rattle.std.proofs.lemmas.List.{append_cancel_right, length-append, map-append}
 use Rattle.std.proofs.lemmas.List.Elements.{All-head, All-tail}
-use Rattle.itip_lines.specs.Cutting.{Piece, IsCutting, HasNoLf, break_bytes, joined, unfolded, without_empty, lines_of, is_blank}
+use Rattle.itip_lines.specs.UnfoldedLines.{Piece, IsCutting, HasNoLf, break_bytes, joined, unfolded, without_empty, lines_of, is_blank}
 use Rattle.itip_lines.specs.Stretches.{LacksBlank, lines_onto}
 use Rattle.itip_lines.proofs.Cuttings.{HasCutting, cutting_of, lines_of_cut}
 use Rattle.itip_todo.specs.Participation.{same_text}

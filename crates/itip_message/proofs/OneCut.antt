@@ -3,7 +3,7 @@ use Rattle.std.proofs.Common.{◌≡◌, ◌∙◌, sym, ap, refl, ℕ, ◌<◌,
 use Rattle.std.proofs.Common.{append_assoc, append-nil}
 use Rattle.std.specs.Prelude.{◌⊎◌, IsTrue, map}
 use Rattle.std.specs.List.{concat, AllByRecursion}
-use Rattle.itip_lines.specs.Cutting.{Piece, unfolded, without_empty, lines_of}
+use Rattle.itip_lines.specs.UnfoldedLines.{Piece, unfolded, without_empty, lines_of}
 use Rattle.itip_lines.specs.Stretches.{LacksBlank, lines_onto}
 use Rattle.itip_lines.proofs.Cuttings.{lines_of_cut}
 use Rattle.itip_message.specs.Cutting.{is_calendar_end, EndNoCalendar, IsCalendar, AreApart, IsRest, unless_empty, IsCutInto}

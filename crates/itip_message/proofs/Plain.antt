@@ -6,7 +6,7 @@ use Rattle.std.specs.List.{list_all, list_any, AllByRecursion}
 use Rattle.std.proofs.lemmas.Bool.{and_parts}
 use Rattle.std.proofs.lemmas.Bool.Decides.{nat_tests}
 use Rattle.std.proofs.lemmas.List.Folds.{list_all-append}
-use Rattle.itip_lines.specs.Cutting.{is_blank}
+use Rattle.itip_lines.specs.UnfoldedLines.{is_blank}
 use Rattle.itip_lines.specs.Octets.{is_upper_name_octet, is_name_octet, is_value_octet, is_quotable_octet, is_separator}
 use Rattle.itip_lines.specs.Lawful.{value_text, values_text, param_text, params_text, line_text, IsName, IsParamValue, IsLawfulParam}
 use Rattle.itip_lines.specs.declared.line.Param.{Param}

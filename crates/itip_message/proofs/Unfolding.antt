@@ -6,9 +6,10 @@ use Rattle.std.specs.List.{slice_split, onto_first, AllByRecursion}
 use Rattle.std.proofs.lemmas.Bool.Decides.{eqb_tells}
 use Rattle.std.proofs.lemmas.List.Elements.{All-append, All-cons, All-nil}
 use Rattle.std.proofs.lemmas.List.Splits.{slice_split-cons_no}
-use Rattle.itip_lines.specs.Cutting.{Break, Piece, IsPiece, IsCutting, HasNoLf, break_bytes, joined, stretches, unfolded, unfolded_onto}
-use Rattle.itip_lines.specs.Cutting.{is_blank}
-use Rattle.itip_lines.specs.Cutting.Break.{lf, crlf}
+use Rattle.itip_lines.specs.UnfoldedLines.{Break, Piece, IsPiece, IsCutting, HasNoLf, break_bytes, joined}
+use Rattle.itip_lines.specs.UnfoldedLines.{stretches, unfolded, unfolded_onto}
+use Rattle.itip_lines.specs.UnfoldedLines.{is_blank}
+use Rattle.itip_lines.specs.UnfoldedLines.Break.{lf, crlf}
 use Rattle.itip_lines.specs.Stretches.{LacksBlank, without_crs, stretches_of, onto_stretches, lines_onto}
 use Rattle.itip_lines.proofs.Stretches.{stretches_of_last, stretches_of_break, stretches_of_cons, stretches_of_some, lines_onto_fold}
 use Rattle.itip_lines.proofs.Stretches.{lines_onto_break}

@@ -2,7 +2,7 @@
 use Rattle.std.specs.Prelude.{◌≡◌, ◌≢◌, ℕ, ◌+◌, ◌==◌, Bool, true, false, IsTrue, List, [], ◌∷◌, ◌++◌, length, codes, Some}
 use Rattle.std.specs.Prelude.{if◌then◌else◌}
 use Rattle.std.specs.List.{flat_map, list_all}
-use Rattle.itip_lines.specs.Cutting.{HasNoLf}
+use Rattle.itip_lines.specs.UnfoldedLines.{HasNoLf}
 use Rattle.itip_lines.specs.Lawful.{params_text}
 use Rattle.itip_lines.specs.Octets.{is_quotable_octet}
 use Rattle.itip_lines.specs.Reading as lines

@@ -3,7 +3,7 @@
 use Rattle.std.specs.Prelude.{◌≡◌, ℕ, Bool, false, IsTrue, List, [], ◌∷◌, ◌++◌, map, codes}
 use Rattle.std.specs.List.{concat, AllByRecursion}
 use Rattle.std.specs.Str.{str_to_ascii_uppercase}
-use Rattle.itip_lines.specs.Cutting.{Piece, IsCutting, stretches, unfolded, lines_of}
+use Rattle.itip_lines.specs.UnfoldedLines.{Piece, IsCutting, stretches, unfolded, lines_of}
 use Rattle.itip_lines.specs.Stretches.{LacksBlank}
 use Rattle.itip_todo.specs.Participation.{same_text}
 

@@ -1,7 +1,7 @@
 -- What is known while lines, bytes and messages are passed (our own form).
 use Rattle.std.specs.Prelude.{◌≡◌, ◌<◌, ℕ, Bool, false, ◌&&◌, ◌||◌, ◌==◌, List, ◌∷◌, ◌++◌, length}
 use Rattle.std.specs.List.{AllByRecursion, concat, list_all}
-use Rattle.itip_lines.specs.Cutting.{is_blank}
+use Rattle.itip_lines.specs.UnfoldedLines.{is_blank}
 use Rattle.itip_message.specs.Scanned.{lines_of, is_return, said, is_empty, ends_calendar}
 
 -- the first line of some bytes, and what follows it

@@ -3,7 +3,7 @@ use Rattle.std.specs.Prelude.{◌≡◌, ◌<◌, ℕ, suc, Bool, true, false, �
 use Rattle.std.specs.Prelude.{codes}
 use Rattle.std.specs.List.{onto_first, concat, list_all}
 use Rattle.std.specs.Char.{to_ascii_uppercase}
-use Rattle.itip_lines.specs.Cutting.{is_blank}
+use Rattle.itip_lines.specs.UnfoldedLines.{is_blank}
 use Rattle.itip_todo.specs.Participation.{same_text}
 
 abbrev pub begins_blank : List ℕ → Bool

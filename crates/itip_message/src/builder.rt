@@ -2,7 +2,7 @@
 ghost use Rattle.std.specs.Prelude.{◌≡◌, ◌≢◌, ◌↔◌, ◌++◌, ◌∷◌, [], ◌+◌, length, codes, IfOk, IfErr, OnOk, OnErr, MatchOption, IsTrue};
 ghost use Rattle.std.specs.Fmt.{decimal};
 ghost use Rattle.std.specs.List.{list_all};
-ghost use Rattle.itip_lines.specs.Cutting.{HasNoLf};
+ghost use Rattle.itip_lines.specs.UnfoldedLines.{HasNoLf};
 ghost use Rattle.itip_lines.specs.Lawful.{params_text};
 ghost use Rattle.itip_lines.specs.Octets.{is_quotable_octet};
 ghost use Rattle.itip_lines.specs.Reading.{plain_lines};
@@ -58,7 +58,7 @@ impl Model for TodoBuilder {
 }
 
 impl TodoBuilder {
-    ghost use Rattle.itip_lines.specs.Cutting.{HasNoLf};
+    ghost use Rattle.itip_lines.specs.UnfoldedLines.{HasNoLf};
     ghost use Rattle.itip_lines.specs.Lawful.{IsName};
     ghost use Rattle.itip_message.specs.Building.{Adds, AddsMoment, BeginsWith, RefusesText, RefusesValue, RefusesMoment, RefusesBeginning};
     ghost use Rattle.itip_message.specs.Building.{moment_line_text, next_number, RefusesMade, GivesItem, RefusesItem};

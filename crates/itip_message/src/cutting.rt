@@ -5,7 +5,7 @@ ghost use Rattle.itip_message.specs.Scanned.{begins_blank, line_length, is_retur
 ghost use Rattle.itip_message.specs.Scanned.{messages_of, CutsMessage, StaysCut};
 ghost use Rattle.itip_message.specs.Passing.{IsFirstLine, StaysFirstLine, SaysFirst, is_left_out};
 ghost use Rattle.itip_message.specs.Parting.{ClosesLine};
-ghost use Rattle.itip_lines.specs.Cutting.{is_blank};
+ghost use Rattle.itip_lines.specs.UnfoldedLines.{is_blank};
 
 use crate::begun::BegunMessage;
 use itip_lines::cut_lf;

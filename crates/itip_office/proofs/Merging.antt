@@ -3,7 +3,7 @@ use Rattle.std.proofs.Common.{◌≡◌, ℕ, List, [], ◌∷◌, ◌++◌, map
 use Rattle.std.proofs.lemmas.List.{append-nil}
 use Rattle.std.proofs.lemmas.List.Elements.{All-nil, All-push}
 use Rattle.itip_items.specs.declared.item.Item.{Item}
-use Rattle.itip_running.specs.Seen.{publishes, published}
+use Rattle.itip_running.specs.ContractViews.{publishes, published}
 use Rattle.itip_running.specs.History.{Group}
 use Rattle.itip_running.specs.declared.keeper.Keeper.{Keeper}
 use Rattle.itip_office.specs.declared.job.Work.{Work}

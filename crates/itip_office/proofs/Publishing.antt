@@ -12,7 +12,7 @@ use Rattle.logbook.specs.Pages.{Book}
 use Rattle.itip_items.specs.declared.item.Item.{Item}
 use Rattle.itip_desk.specs.Desk.{Shown}
 use Rattle.itip_running.specs.History.{Group, batches_of}
-use Rattle.itip_running.specs.Seen.{published, keeper_pair}
+use Rattle.itip_running.specs.ContractViews.{published, keeper_pair}
 use Rattle.itip_running.specs.declared.keeper.Keeper.{Keeper}
 use Rattle.itip_office.specs.Texts.{desk_of}
 use Rattle.itip_office.specs.Answers.{Answer, AnswersAlone}

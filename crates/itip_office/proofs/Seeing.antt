@@ -9,7 +9,7 @@ use Rattle.itip_state.proofs.Members.{cons_first}
 use Rattle.itip_view.specs.declared.window.Window.{Window}
 use Rattle.itip_desk.specs.Desk.{Shown}
 use Rattle.itip_running.specs.Deltas.{IsDeltaAfter}
-use Rattle.itip_running.specs.Seen.{published}
+use Rattle.itip_running.specs.ContractViews.{published}
 use Rattle.itip_running.specs.declared.keeper.Keeper.{Keeper}
 use Rattle.itip_office.specs.declared.job.Work.{Work}
 use Rattle.itip_office.specs.declared.job.Work.TheVariants.{Text, Carry, Look}

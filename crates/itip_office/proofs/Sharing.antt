@@ -9,7 +9,7 @@ use Rattle.itip_state.specs.Kept.{AreKept, IsKept}
 use Rattle.itip_state.proofs.Members.{none_in, cons_cases, cons_first, cons_later}
 use Rattle.itip_state.proofs.Keeping.{Covers, covers_kept, covers_itself, kept_part, kept_of_parts, kept_iff, same_absorbed, are_kept_by}
 use Rattle.itip_desk.specs.Desk.{Shown, IsDeskOf, IsDeltaOf}
-use Rattle.itip_desk.specs.Heard.{heard}
+use Rattle.itip_desk.specs.HeardSteps.{heard}
 use Rattle.itip_office.specs.Ended.{all_heard, IsSomeDesk}
 use Rattle.itip_office.proofs.Taking.{heard_both}
 use Rattle.itip_office.proofs.Whole.{whole_delta}

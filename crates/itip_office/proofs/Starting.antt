@@ -4,7 +4,7 @@ use Rattle.std.proofs.Common.{Option, Some, None}
 use Rattle.std.proofs.lemmas.List.Elements.{All-nil, All-cons, All-head, All-tail, All-same, All-weaker}
 use Rattle.logbook.specs.Pages.{Book}
 use Rattle.itip_desk.specs.Desk.{Shown, IsDeskOf}
-use Rattle.itip_running.specs.Seen.{publishes, pending, keeper_pair, publishes_seen, pass_pair}
+use Rattle.itip_running.specs.ContractViews.{publishes, pending, keeper_pair, publishes_seen, pass_pair}
 use Rattle.itip_running.specs.declared.keeper.Keeper.{Keeper}
 use Rattle.itip_running.specs.declared.pass.Pass.{Pass}
 use Rattle.itip_office.specs.Pairs.{pair_of, pair_at, AreNumbered, IsStarted}

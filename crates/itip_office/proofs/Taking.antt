@@ -6,7 +6,7 @@ use Rattle.itip_items.specs.declared.item.Item.{Item}
 use Rattle.itip_message.proofs.OneMessage.{one_message}
 use Rattle.itip_state.proofs.Members.{none_in, cons_cases, cons_first}
 use Rattle.itip_desk.specs.Desk.{Shown, IsDeskOf}
-use Rattle.itip_desk.specs.Heard.{heard}
+use Rattle.itip_desk.specs.HeardSteps.{heard}
 use Rattle.itip_office.specs.declared.job.Work.{Work}
 use Rattle.itip_office.specs.declared.job.Work.TheVariants.{Text, Carry, Look}
 use Rattle.itip_office.specs.declared.outcome.Outcome.{Outcome}

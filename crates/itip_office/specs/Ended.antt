@@ -5,7 +5,7 @@ use Rattle.std.specs.List.Sorted.{IsStrictlyIncreasing}
 use Rattle.itip_items.specs.declared.item.Item.{Item}
 use Rattle.itip_state.specs.Kept.{AreKept}
 use Rattle.itip_desk.specs.Desk.{Shown, IsDeskOf}
-use Rattle.itip_desk.specs.Heard.{heard}
+use Rattle.itip_desk.specs.HeardSteps.{heard}
 use Rattle.itip_office.specs.declared.job.Job.{Job}
 use Rattle.itip_office.specs.declared.outcome.Outcome.{Outcome}
 use Rattle.itip_office.specs.Answers.{Answer, IsOutcome}

@@ -1,4 +1,4 @@
-pub use Rattle.itip_desk.specs.Heard
+pub use Rattle.itip_desk.specs.HeardSteps
 pub use Rattle.itip_desk.specs.Ticks
 pub use Rattle.itip_desk.specs.Desk
 pub use Rattle.itip_state.specs.Kept

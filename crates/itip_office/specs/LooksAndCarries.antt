@@ -5,7 +5,7 @@ use Rattle.itip_items.specs.declared.item.Item.{Item}
 use Rattle.itip_view.specs.ListText.{IsListText}
 use Rattle.itip_view.specs.Rows.{AreTooMany}
 use Rattle.itip_view.specs.declared.window.Window.{Window}
-use Rattle.itip_desk.specs.Heard.{heard}
+use Rattle.itip_desk.specs.HeardSteps.{heard}
 use Rattle.itip_desk.specs.declared.refusal.Refusal.TheVariants.{TooManyRows}
 use Rattle.itip_running.specs.Deltas.{IsDeltaAfter}
 use Rattle.itip_office.specs.declared.job.Work.{Work}

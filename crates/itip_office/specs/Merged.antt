@@ -3,8 +3,8 @@ use Rattle.std.specs.Prelude.{◌≡◌, ℕ, List, [], ◌∷◌, ◌++◌, map
 use Rattle.std.specs.List.{AllZip}
 use Rattle.itip_items.specs.declared.item.Item.{Item}
 use Rattle.itip_desk.specs.Desk.{Shown, IsDeskOf}
-use Rattle.itip_desk.specs.Heard.{heard}
-use Rattle.itip_running.specs.Seen.{publishes, published, pending, calls, fresh, keeper_pair}
+use Rattle.itip_desk.specs.HeardSteps.{heard}
+use Rattle.itip_running.specs.ContractViews.{publishes, published, pending, calls, fresh, keeper_pair}
 use Rattle.itip_running.specs.declared.keeper.Keeper.{Keeper}
 use Rattle.itip_office.specs.declared.job.Work.{Work}
 use Rattle.itip_office.specs.declared.job.Work.TheVariants.{Text, Carry, Look}

@@ -2,7 +2,7 @@
 use Rattle.std.specs.Prelude.{◌≡◌, ◌+◌, ℕ, zero, suc, List, [], ◌∷◌, Option, Some, None, All}
 use Rattle.logbook.specs.Pages.{Book}
 use Rattle.itip_desk.specs.Desk.{Shown, IsDeskOf}
-use Rattle.itip_running.specs.Seen.{publishes, keeper_pair, pass_pair}
+use Rattle.itip_running.specs.ContractViews.{publishes, keeper_pair, pass_pair}
 use Rattle.itip_running.specs.declared.keeper.Keeper.{Keeper}
 use Rattle.itip_running.specs.declared.pass.Pass.{Pass}
 use Rattle.itip_items.specs.declared.item.Item.{Item}

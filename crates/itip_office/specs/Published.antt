@@ -3,7 +3,7 @@ use Rattle.std.specs.Prelude.{◌≡◌, ℕ, List, ◌++◌, Option, Some, None
 use Rattle.std.specs.List.{AllZip, flat_map}
 use mathlib.Core.List.{IsPrefix}
 use Rattle.itip_items.specs.declared.item.Item.{Item}
-use Rattle.itip_running.specs.Seen.{published}
+use Rattle.itip_running.specs.ContractViews.{published}
 use Rattle.itip_running.specs.declared.keeper.Keeper.{Keeper}
 use Rattle.itip_office.specs.Texts.{desk_of, IsText}
 use Rattle.itip_office.specs.Answers.{Answer, AnswersAlone}

@@ -2,9 +2,9 @@
 ghost use Rattle.std.specs.Prelude.{◌≡◌, ◌⊎◌, IfOk, IfErr, IsErrOf};
 ghost use Rattle.itip_view.specs.ListText.{IsListText};
 ghost use Rattle.itip_view.specs.Rows.{AreTooMany};
-ghost use Rattle.itip_desk.specs.Heard.{heard};
+ghost use Rattle.itip_desk.specs.HeardSteps.{heard};
 ghost use Rattle.itip_running.specs.Deltas.{IsDeltaAfter};
-ghost use Rattle.itip_running.specs.Seen.{seen, pass_pair};
+ghost use Rattle.itip_running.specs.ContractViews.{seen, pass_pair};
 
 use crate::pairs::Pairs;
 use crate::source::Source;
@@ -26,7 +26,7 @@ impl<N: Pairs> Model for Seat<N> {
     ghost use Rattle.std.specs.Coded.{coded×, coded_ℕ, coded_list};
     ghost use Rattle.itip_items.specs.declared.item.Item.{Item};
     ghost use Rattle.itip_items.specs.contracts.item.Item as item;
-    ghost use Rattle.itip_running.specs.Seen.{seen, pass_pair};
+    ghost use Rattle.itip_running.specs.ContractViews.{seen, pass_pair};
 
     ghost Value = { ℕ × List (List Item) };
 

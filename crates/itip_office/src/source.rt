@@ -1,7 +1,7 @@
 //! What a pass of a desk had seen.
 ghost use Rattle.std.specs.Prelude.{◌≡◌, ◌++◌, OnOk, IsTrue, option_to_list};
 ghost use mathlib.Core.List.{IsPrefix};
-ghost use Rattle.itip_running.specs.Seen.{published, keeper_pair, told, receipt_pair};
+ghost use Rattle.itip_running.specs.ContractViews.{published, keeper_pair, told, receipt_pair};
 
 use crate::pairs::Pairs;
 use itip_running::{Keeper, Receipt};
@@ -21,7 +21,7 @@ impl<N: Pairs> Model for Source<N> {
     ghost use Rattle.std.specs.Coded.{coded×, coded_ℕ, coded_list};
     ghost use Rattle.itip_items.specs.declared.item.Item.{Item};
     ghost use Rattle.itip_items.specs.contracts.item.Item as item;
-    ghost use Rattle.itip_running.specs.Seen.{told, receipt_pair};
+    ghost use Rattle.itip_running.specs.ContractViews.{told, receipt_pair};
 
     ghost Value = { ℕ × List (List Item) };
 

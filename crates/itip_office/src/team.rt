@@ -1,6 +1,6 @@
 //! The threads of an office.
 ghost use Rattle.std.specs.Prelude.{◌≡◌, ◌≢◌, ◌⊎◌, ◌≤◌, ℕ, [], length, map, All, IfOk, OnOk, IfErr, IsErrOf, IsTrue};
-ghost use Rattle.itip_running.specs.Seen.{pass_pair};
+ghost use Rattle.itip_running.specs.ContractViews.{pass_pair};
 ghost use Rattle.itip_office.specs.Answers.{AnswersAlone};
 ghost use Rattle.itip_office.specs.LooksAndCarries.{IsOneOf, IsAnswered};
 ghost use Rattle.itip_office.specs.Merged.{HasMerged};

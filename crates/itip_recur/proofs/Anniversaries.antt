@@ -4,7 +4,7 @@ use Rattle.jiff_core.proofs.SignedLemmas.{signed_arith}
 use Rattle.itip_moment.specs.Years.{IsDayNumber}
 use Rattle.itip_recur.specs.declared.rule.YearDays.TheVariants.{OfStart}
 use Rattle.itip_recur.specs.Calendar.{year_number, month_of_year, day_of_month, IsDayOrEnd, HasDate, IsDayOfDate}
-use Rattle.itip_recur.specs.Pattern.{IsYearDay}
+use Rattle.itip_recur.specs.SelectedDays.{IsYearDay}
 use Rattle.itip_recur.specs.Waits.{IsFirst}
 
 module _ (year month day : ℕ) (start from stop : ℤ) (from_in : IsDayNumber from) (stop_in : IsDayOrEnd stop) (in_year : (x : ℤ) →

@@ -5,10 +5,10 @@ use Rattle.jiff_core.proofs.SignedLemmas.{signed_arith}
 use Rattle.itip_moment.specs.declared.moment.Moment.{Moment}
 use Rattle.itip_moment.specs.Moment.{moment_day}
 use Rattle.itip_recur.specs.declared.rule.Rule.{Rule}
-use Rattle.itip_recur.specs.declared.rule_days.RuleDays.{RuleDays}
+use Rattle.itip_recur.specs.declared.prepared_rule.PreparedRule.{PreparedRule}
 use Rattle.itip_recur.specs.declared.series.Series.{Series}
 use Rattle.itip_recur.specs.Members.{HasTimeOf, IsRepeat, IsCandidate, IsWithinEnd, IsMember, IsRuleMember, Occurs}
-use Rattle.itip_recur.specs.RuleDays.{IsDaysOf, MayRepeat, IsLaterMember}
+use Rattle.itip_recur.specs.PreparedRule.{IsPreparedRule, MayRepeat, IsLaterMember}
 use Rattle.itip_recur.proofs.Moments.{moment_day-in_years}
 
 -- what a test that says no tells
@@ -21,7 +21,7 @@ never P not = (λ t. let x : false ≡ true = t in absurd (cc), λ p. absurd (no
 pub always : (P : Type 0) → P → IsTrue true ↔ P
 always P p = (λ t. p, λ h. refl)
 
-module _ (rule : Rule) (start m : Moment) (days : RuleDays) (is : IsDaysOf rule start days) where
+module _ (rule : Rule) (start m : Moment) (days : PreparedRule) (is : IsPreparedRule rule start days) where
   pub later_member : MayRepeat rule start days.end m → HasTimeOf start m → IsLaterMember rule start m
   later_member may time =
       let repeat : IsRepeat rule start m = record { same_time = time; day = record { later = may.later; in_pattern = may.in_pattern } } in

@@ -17,7 +17,7 @@ use Rattle.itip_moment.specs.Years.{IsDayNumber}
 use Rattle.itip_moment.specs.declared.day.Day.{Day}
 use Rattle.itip_moment.proofs.Same.{same_day}
 use Rattle.itip_recur.specs.declared.rule.Rule.{Rule}
-use Rattle.itip_recur.specs.Pattern.{IsLaterDay}
+use Rattle.itip_recur.specs.SelectedDays.{IsLaterDay}
 use Rattle.itip_recur.specs.Walk.{IsNoDay, IsNextDay, AreFewerDays, IsEarlier, IsEndOfCount}
 use Rattle.itip_recur.specs.Counting.{Counted}
 

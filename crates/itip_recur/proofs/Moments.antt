@@ -20,7 +20,7 @@ use Rattle.itip_moment.proofs.Same.{same_day, same_moment}
 use Rattle.itip_recur.specs.declared.rule.Rule.{Rule}
 use Rattle.itip_recur.specs.declared.rule.End.{End}
 use Rattle.itip_recur.specs.declared.rule.End.TheVariants.{Count}
-use Rattle.itip_recur.specs.Pattern.{IsLaterDay}
+use Rattle.itip_recur.specs.SelectedDays.{IsLaterDay}
 use Rattle.itip_recur.specs.Members.{HasTimeOf, IsRepeat, IsCandidate, IsWithinEnd, AreFewer}
 use Rattle.itip_recur.specs.Walk.{AreFewerDays, IsEarlier, IsEndOfCount, IsUpTo}
 use Rattle.itip_recur.proofs.MappedLists.{Contains-map}

@@ -20,9 +20,10 @@ use Rattle.itip_recur.specs.declared.rule.Place.TheVariants.{FromFirst, FromLast
 use Rattle.itip_recur.specs.declared.rule.MonthWeekday.{MonthWeekday}
 use Rattle.itip_recur.specs.declared.rule.MonthWeekday.TheVariants.{Every, Nth}
 use Rattle.itip_recur.specs.Calendar.{weekday_number, year_number, month_of_year, month_number, day_of_month, month_length}
-use Rattle.itip_recur.specs.Pattern.{unit_number, counted, ordinal, IsAtPlace, IsMonthWeekday, IsMonthDay, IsYearDay, IsSelected, InPattern}
+use Rattle.itip_recur.specs.SelectedDays.{unit_number, counted, ordinal, IsAtPlace, IsMonthWeekday, IsMonthDay, IsYearDay}
+use Rattle.itip_recur.specs.SelectedDays.{IsSelected, InPattern}
 use Rattle.itip_recur.specs.Counting.{Walked}
-use Rattle.itip_recur.specs.Months.{IsByMonths, NamesMonth, OwnsMonth, IsFirstOfOwn, month_shape, unknown, AreMet}
+use Rattle.itip_recur.specs.MonthCounts.{IsByMonths, NamesMonth, OwnsMonth, IsFirstOfOwn, month_shape, unknown, AreMet}
 use Rattle.itip_recur.proofs.Dates.{pos-days_from_zero}
 use Rattle.itip_recur.proofs.InMonth.{IsInMonth, in_month, pos-days_from_zero-low}
 use Rattle.itip_recur.proofs.NamedDays.{any_like}

@@ -2,7 +2,7 @@
 use Rattle.std.proofs.Common.{◌≡◌, ℕ, zero, suc, sym, subst, arith, ℤ, pos, ◌+ℤ◌, ◌-ℤ◌, ◌<ℤ◌, ◌≤ℤ◌}
 use Rattle.jiff_core.proofs.SignedLemmas.{signed_arith}
 use Rattle.itip_recur.specs.declared.rule.Rule.{Rule}
-use Rattle.itip_recur.specs.Pattern.{InPattern}
+use Rattle.itip_recur.specs.SelectedDays.{InPattern}
 use Rattle.itip_recur.specs.Walk.{IsNoDay, IsNextDay}
 use Rattle.itip_recur.specs.Counting.{Walked}
 

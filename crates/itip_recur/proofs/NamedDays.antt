@@ -9,7 +9,7 @@ use Rattle.itip_recur.specs.declared.rule.Place.TheVariants.{FromFirst, FromLast
 use Rattle.itip_recur.specs.declared.rule.MonthWeekday.{MonthWeekday}
 use Rattle.itip_recur.specs.declared.rule.MonthWeekday.TheVariants.{Every, Nth}
 use Rattle.itip_recur.specs.Calendar.{weekday_number, day_of_month, month_length}
-use Rattle.itip_recur.specs.Pattern.{IsAtPlace, IsMonthWeekday}
+use Rattle.itip_recur.specs.SelectedDays.{IsAtPlace, IsMonthWeekday}
 use Rattle.itip_recur.specs.Sets.{has_number, IsSet, place_number, nth_number, month_weekday_number, from_last, seven, nth_first, nth_last}
 use Rattle.itip_recur.specs.Sets.{has_place, has_weekday}
 use Rattle.itip_recur.proofs.PeriodWalks.{monday_zero-small}

@@ -15,7 +15,7 @@ use Rattle.itip_recur.specs.declared.rule.Frequency.TheVariants.{Daily, Weekly}
 use Rattle.itip_recur.specs.declared.rule.WeekDays.{WeekDays}
 use Rattle.itip_recur.specs.declared.rule.WeekDays.TheVariants as week
 use Rattle.itip_recur.specs.Calendar.{days_from_zero, weekday_number, week_number}
-use Rattle.itip_recur.specs.Pattern.{unit_number, InPattern, IsSelected, IsWeekDay}
+use Rattle.itip_recur.specs.SelectedDays.{unit_number, InPattern, IsSelected, IsWeekDay}
 use Rattle.itip_recur.specs.Walk.{IsNoDay, IsNextDay}
 use Rattle.itip_recur.specs.Counting.{Counted, Walked, IsPeriod, IsPassed}
 use Rattle.itip_recur.proofs.InMonth.{pos-days_from_zero-low}

@@ -18,7 +18,7 @@ use Rattle.itip_recur.specs.declared.rule.End.TheVariants.{Count}
 use Rattle.itip_recur.specs.declared.series.Series.{Series}
 use Rattle.itip_recur.specs.Members.{HasTimeOf, IsRepeat, IsCandidate, IsWithinEnd, IsMember, IsRuleMember}
 use Rattle.itip_recur.specs.Occurrences.{OccursIn}
-use Rattle.itip_recur.specs.Pattern.{InPattern}
+use Rattle.itip_recur.specs.SelectedDays.{InPattern}
 use Rattle.itip_recur.specs.Walk.{IsNoDay, IsNextDay, IsUpTo}
 use Rattle.itip_recur.specs.Adding.{IsKept, IsThis, IsStart, IsRepeatOf, IsBetween, IsOnDay, IsOneOf, IsMemberIn}
 use Rattle.itip_recur.proofs.Moments.{one_moment, moment_cmp-Greater, moment_day-in_years}

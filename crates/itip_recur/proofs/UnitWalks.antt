@@ -9,7 +9,7 @@ use Rattle.jiff_core.proofs.SignedLemmas.{signed_arith}
 use Rattle.itip_moment.specs.Years.{IsDayNumber}
 use Rattle.itip_recur.specs.declared.rule.Rule.{Rule}
 use Rattle.itip_recur.specs.Calendar.{IsDayOrEnd}
-use Rattle.itip_recur.specs.Pattern.{unit_number, IsSelected}
+use Rattle.itip_recur.specs.SelectedDays.{unit_number, IsSelected}
 use Rattle.itip_recur.specs.Walk.{IsNoDay, IsNextDay, IsUnitFrom, IsFirstDay, IsInUnit}
 use Rattle.itip_recur.specs.Waits.{IsNone, IsFirst, IsWait}
 use Rattle.itip_recur.proofs.Dates.{pos-unsigned_abs}

@@ -7,7 +7,7 @@ use Rattle.itip_moment.specs.Years.{IsDayNumber}
 use Rattle.itip_recur.specs.declared.rule.Frequency.{Frequency}
 use Rattle.itip_recur.specs.declared.rule.Frequency.TheVariants.{Daily, Weekly, Monthly, Yearly}
 use Rattle.itip_recur.specs.Calendar.{days_from_zero, month_number}
-use Rattle.itip_recur.specs.Pattern.{unit_number}
+use Rattle.itip_recur.specs.SelectedDays.{unit_number}
 use Rattle.itip_recur.proofs.Dates.{date_of-IsPlain, pos-days_from_zero, later_date, month_near, year_near}
 use Rattle.itip_recur.proofs.CalendarDays.{year_high}
 

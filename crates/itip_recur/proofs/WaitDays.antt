@@ -10,7 +10,7 @@ use Rattle.jiff_core.specs.declared.civil.weekday.Weekday.{Weekday}
 use Rattle.itip_recur.specs.declared.rule.Place.{Place}
 use Rattle.itip_recur.specs.declared.rule.Place.TheVariants.{FromLast}
 use Rattle.itip_recur.specs.declared.rule.MonthWeekday.TheVariants.{Nth}
-use Rattle.itip_recur.specs.Pattern.{IsAtPlace, IsInSeven, IsMonthWeekday, IsOnWeekday}
+use Rattle.itip_recur.specs.SelectedDays.{IsAtPlace, IsInSeven, IsMonthWeekday, IsOnWeekday}
 use Rattle.itip_recur.proofs.InMonth.{IsInMonth, in_month, pos-days_from_zero-low}
 
 -- a day for which P doesn't hold

@@ -3,7 +3,7 @@ use Rattle.std.proofs.Common.{◌≡◌, ℤ, pos, ◌+ℤ◌, ◌≤ℤ◌, sub
 use Rattle.std.proofs.lemmas.Int.{by_lt_z}
 use Rattle.jiff_core.proofs.SignedLemmas.{signed_arith}
 use Rattle.itip_recur.specs.declared.rule.Rule.{Rule}
-use Rattle.itip_recur.specs.Pattern.{InPattern}
+use Rattle.itip_recur.specs.SelectedDays.{InPattern}
 use Rattle.itip_recur.specs.Walk.{IsNoDay}
 
 pub IsNoDay-none : (rule : Rule) (start from : ℤ) → IsNoDay rule start from from

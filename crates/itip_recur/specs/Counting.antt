@@ -4,7 +4,7 @@ use Rattle.std.specs.List.{Contains, IsDistinct}
 use Rattle.std.specs.Ordering.{int_eq}
 use Rattle.itip_moment.specs.declared.day.Day.{Day}
 use Rattle.itip_recur.specs.declared.rule.Rule.{Rule}
-use Rattle.itip_recur.specs.Pattern.{InPattern, IsLaterDay}
+use Rattle.itip_recur.specs.SelectedDays.{InPattern, IsLaterDay}
 use Rattle.itip_recur.specs.Walk.{IsNoDay, IsNextDay, AreFewerDays, IsEarlier}
 
 -- the rule has `seen` days before `day`, and each of them after the start has fewer than `count` before it

@@ -1,12 +1,12 @@
 pub mod Calendar
-pub mod Pattern
+pub mod SelectedDays
 pub mod Sets
 pub mod Members
 pub mod Walk
-pub mod RuleDays
+pub mod PreparedRule
 pub mod Waits
 pub mod Counting
-pub mod Months
+pub mod MonthCounts
 pub mod Occurrences
 pub mod Adding
 pub mod RuleText

@@ -9,7 +9,7 @@ use Rattle.itip_recur.specs.declared.rule.Rule.{Rule}
 use Rattle.itip_recur.specs.declared.rule.End.{End}
 use Rattle.itip_recur.specs.declared.rule.End.TheVariants.{Never, Count, Until}
 use Rattle.itip_recur.specs.declared.series.Series.{Series}
-use Rattle.itip_recur.specs.Pattern.{IsLaterDay}
+use Rattle.itip_recur.specs.SelectedDays.{IsLaterDay}
 
 -- both have the same form, zone and second of the day
 pub record HasTimeOf (start m : Moment) : Type 0 where

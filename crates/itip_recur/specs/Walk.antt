@@ -10,7 +10,7 @@ use Rattle.itip_recur.specs.declared.rule.End.TheVariants.{Never, Count, Until}
 use Rattle.itip_recur.specs.declared.rule.Rule.{Rule}
 use Rattle.itip_moment.specs.Years.{IsDayNumber}
 use Rattle.itip_recur.specs.Calendar.{IsDayOrEnd}
-use Rattle.itip_recur.specs.Pattern.{unit_number, InPattern, IsLaterDay, IsRuleDay}
+use Rattle.itip_recur.specs.SelectedDays.{unit_number, InPattern, IsLaterDay, IsRuleDay}
 
 -- no day from `from` on and before `end` is in the pattern
 abbrev pub IsNoDay : Rule → ℤ → ℤ → ℤ → Type 0

@@ -4,13 +4,13 @@ ghost use Rattle.std.specs.declared.cmp.Ordering.TheVariants.{Greater};
 ghost use Rattle.itip_moment.specs.Years.{IsDayNumber};
 ghost use Rattle.itip_moment.specs.Moment.{moment_day};
 ghost use Rattle.itip_recur.specs.Calendar.{IsDayOrEnd};
-ghost use Rattle.itip_recur.specs.Pattern.{InPattern, IsLaterDay};
+ghost use Rattle.itip_recur.specs.SelectedDays.{InPattern, IsLaterDay};
 ghost use Rattle.itip_moment.specs.declared.moment.Moment.{Moment};
 ghost use Rattle.itip_recur.specs.Members.{HasTimeOf, IsRepeat, IsCandidate, IsWithinEnd};
 ghost use Rattle.itip_recur.specs.Walk.{IsNextDay, IsNoDay, IsEndOfCount, IsUpTo};
 
 use crate::NoMemory;
-use crate::months::passed_days;
+use crate::month_counts::passed_days;
 use crate::rule::{End, Rule};
 use crate::walk::Walk;
 use itip_moment::{Day, Moment, Stamp};

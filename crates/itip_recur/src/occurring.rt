@@ -1,13 +1,13 @@
 //! A series that is asked about many moments.
 ghost use Rattle.std.specs.Prelude.{◌≡◌, ◌↔◌, IsTrue, IfOk};
 ghost use Rattle.itip_recur.specs.Members.{IsRuleMember, Occurs};
-ghost use Rattle.itip_recur.specs.RuleDays.{AreDaysOf};
+ghost use Rattle.itip_recur.specs.PreparedRule.{IsPreparedSeries};
 
 use crate::NoMemory;
 use crate::ascending::Ascending;
 use crate::listing::is_member;
+use crate::prepared_rule::{PreparedRule, is_same};
 use crate::rule::Rule;
-use crate::rule_days::{RuleDays, is_same};
 use crate::series::Series;
 use itip_moment::Moment;
 use std::marker::Model;
@@ -18,7 +18,7 @@ use std::marker::Model;
 pub struct Occurring {
     series: Series,
     rdates: Ascending,
-    days: Option<RuleDays>,
+    days: Option<PreparedRule>,
 }
 
 impl Model for Occurring {
@@ -27,7 +27,7 @@ impl Model for Occurring {
     ghost use Rattle.itip_moment.specs.declared.moment.Moment.{Moment};
     ghost use Rattle.itip_recur.specs.contracts.series.Series as row;
     ghost use Rattle.itip_recur.specs.declared.series.Series.{Series};
-    ghost use Rattle.itip_recur.specs.RuleDays.{AreDaysOf};
+    ghost use Rattle.itip_recur.specs.PreparedRule.{IsPreparedSeries};
 
     ghost Value = { Series };
 
@@ -36,7 +36,7 @@ impl Model for Occurring {
     ghost view = { λ o. o.series };
 
     ghost invariant = { λ o. ((m : Moment) → Contains o.rdates.moments.items m ↔ Contains o.series.rdates m) ×
-        AreDaysOf o.series.rule o.series.start o.days };
+        IsPreparedSeries o.series.rule o.series.start o.days };
 }
 
 impl Occurring {
@@ -45,7 +45,7 @@ impl Occurring {
         ensures { IfOk result (λ asked. asked ≡ series) }
     {
         let rdates = Ascending::of_moments(series.rdates.clone()?.into_vec())?;
-        let days = RuleDays::of_series(&series.rule, &series.start);
+        let days = PreparedRule::of_series(&series.rule, &series.start);
         Ok(Occurring {
             series,
             rdates,
@@ -68,8 +68,8 @@ impl Occurring {
 }
 
 /// Whether a moment is a member of a rule, of which the days are worked out.
-fn has_member(rule: &Option<Rule>, days: &Option<RuleDays>, start: &Moment, at: &Moment) -> bool
-    requires { AreDaysOf rule.now start.now days.now }
+fn has_member(rule: &Option<Rule>, days: &Option<PreparedRule>, start: &Moment, at: &Moment) -> bool
+    requires { IsPreparedSeries rule.now start.now days.now }
     ensures { IsTrue result ↔ IsRuleMember rule.now start.now at.now }
 {
     if is_same(at, start) {

@@ -4,14 +4,14 @@ ghost use Rattle.itip_moment.specs.Years.{IsDayNumber};
 ghost use Rattle.itip_recur.specs.Calendar.{day_of_month, month_length};
 ghost use Rattle.itip_recur.specs.declared.rule.Frequency.TheVariants.{Yearly};
 ghost use Rattle.itip_recur.specs.declared.rule.MonthWeekday.TheVariants.{Nth};
-ghost use Rattle.itip_recur.specs.Pattern.{IsSelected, IsMonthDay, IsAtPlace, IsMonthWeekday, IsInSeven, IsOnWeekday, IsYearDay};
+ghost use Rattle.itip_recur.specs.SelectedDays.{IsSelected, IsMonthDay, IsAtPlace, IsMonthWeekday, IsInSeven, IsOnWeekday, IsYearDay};
 ghost use Rattle.itip_recur.specs.Sets.{IsSet, names_day, AreSetsOf};
 ghost use Rattle.itip_recur.specs.Waits.{IsNone, IsWait};
 
 use crate::Weekday;
 use crate::calendar::{CalendarDay, weekday_number};
-use crate::pattern::{is_in_month, is_month_day, is_week_day, is_year_day};
 use crate::rule::{Frequency, MonthDays, MonthWeekday, Place, YearDays};
+use crate::selected_days::{is_in_month, is_month_day, is_week_day, is_year_day};
 use crate::sets::DaySets;
 
 /// How many days from this one on can be passed over, none of which is selected; if it is 0, this day is selected.

@@ -2,15 +2,15 @@
 ghost use Rattle.std.specs.Prelude.{◌≡◌, ◌≢◌, ◌↔◌, ◌+◌, ◌%◌, ◌<◌, ◌≤◌, ◌^◌, ℕ, ℤ, pos, ◌≤ℤ◌, ◌<ℤ◌, ◌⊎◌, IsTrue, MatchOption};
 ghost use Rattle.itip_moment.specs.Years.{IsDayNumber};
 ghost use Rattle.itip_recur.specs.Calendar.{IsDayOrEnd, weekday_number, year_number};
-ghost use Rattle.itip_recur.specs.Pattern.{unit_number, InPattern, IsSelected, IsWeekDay, IsYearDay};
+ghost use Rattle.itip_recur.specs.SelectedDays.{unit_number, InPattern, IsSelected, IsWeekDay, IsYearDay};
 ghost use Rattle.itip_recur.specs.Sets.{has_number, IsSet, names_weekday, AreSetsOf};
 ghost use Rattle.itip_recur.specs.Walk.{IsNextDay, IsNoDay, IsUnitFrom, IsFirstDay, IsInUnit};
 ghost use Rattle.itip_recur.specs.Waits.{IsNone, IsFirst};
 ghost use Rattle.itip_recur.specs.declared.rule.YearDays.TheVariants.{OfStart};
 
 use crate::calendar::{CalendarDay, day_of_date, weekday_number};
-use crate::pattern::{first_day, next_congruent, unit_number};
 use crate::rule::{Frequency, Rule, WeekDays, YearDays};
+use crate::selected_days::{first_day, next_congruent, unit_number};
 use crate::sets::DaySets;
 use crate::waits::wait;
 

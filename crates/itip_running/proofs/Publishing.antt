@@ -2,7 +2,7 @@
 use Rattle.std.proofs.Common.{◌≡◌, List, [], ◌∷◌, ◌++◌, length, drop, ap, sym, ◌∙◌, subst, inr, append_assoc}
 use mathlib.Core.List.{IsPrefix}
 use Rattle.itip_running.specs.History.{Group}
-use Rattle.itip_running.specs.Seen.{IsShownCall, IsRefusedCall}
+use Rattle.itip_running.specs.ContractViews.{IsShownCall, IsRefusedCall}
 
 -- groups that begin those of all calls begin these with one more
 goes_on : (gs all : List Group) (g : Group) → all ≡ gs ++ drop (length gs) all → IsPrefix gs (all ++ g ∷ [])

@@ -4,7 +4,7 @@ use Rattle.std.specs.List.{Contains}
 use Rattle.itip_items.specs.KeyParts.{uid_of}
 use Rattle.itip_items.specs.declared.item.Item.{Item}
 use Rattle.itip_state.specs.Kept.{IsKept}
-use Rattle.itip_desk.specs.Heard.{heard}
+use Rattle.itip_desk.specs.HeardSteps.{heard}
 use Rattle.itip_desk.specs.Ticks.{MovedAfter}
 use Rattle.itip_desk.specs.Octets.{AscendOctets}
 

@@ -1,4 +1,4 @@
-pub use Rattle.itip_desk.specs.Heard
+pub use Rattle.itip_desk.specs.HeardSteps
 pub use Rattle.itip_desk.specs.Ticks
 pub use Rattle.itip_desk.specs.Desk
 pub use Rattle.itip_view.specs.Rows
@@ -9,4 +9,4 @@ pub mod Deltas
 pub mod Parts
 pub mod History
 pub mod Pair
-pub mod Seen
+pub mod ContractViews

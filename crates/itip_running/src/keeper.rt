@@ -20,8 +20,9 @@ pub struct Keeper {
 }
 
 impl Keeper {
-    ghost use Rattle.itip_running.specs.Seen.{publishes, published, pending, calls, fresh, keeper_pair, publishes_told, told, receipt_pair};
-    ghost use Rattle.itip_running.specs.Seen.{IsShownCall, IsRefusedCall};
+    ghost use Rattle.itip_running.specs.ContractViews.{publishes, published, pending, calls, fresh, keeper_pair};
+    ghost use Rattle.itip_running.specs.ContractViews.{publishes_told, told, receipt_pair};
+    ghost use Rattle.itip_running.specs.ContractViews.{IsShownCall, IsRefusedCall};
 
     /// Adds a batch after those that are pending.
     ///

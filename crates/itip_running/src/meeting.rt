@@ -2,7 +2,7 @@
 ghost use Rattle.std.specs.Prelude.{◌≡◌, ◌⊎◌, length, map, Some, IfOk, IfErr, All};
 ghost use mathlib.Core.List.{IsPrefix};
 ghost use Rattle.itip_desk.specs.Desk.{IsDeskOf};
-ghost use Rattle.itip_running.specs.Seen.{publishes, published, keeper_pair, publishes_seen, seen, pass_pair};
+ghost use Rattle.itip_running.specs.ContractViews.{publishes, published, keeper_pair, publishes_seen, seen, pass_pair};
 
 use crate::error::LiveError;
 use crate::front::Front;

@@ -1,6 +1,6 @@
 //! A receipt that is sent through a channel.
 ghost use Rattle.std.specs.Prelude.{◌≡◌};
-ghost use Rattle.itip_running.specs.Seen.{publishes_told, receipt_pair};
+ghost use Rattle.itip_running.specs.ContractViews.{publishes_told, receipt_pair};
 
 use crate::receipt::Receipt;
 use std::marker::{Brand, Model, PhantomData};

@@ -2,7 +2,7 @@
 ghost use Rattle.std.specs.Prelude.{◌≡◌, ◌≤◌, [], false, length, IfOk, IfErr, IsErrOf, IsOk};
 ghost use Rattle.left_right.specs.Sides.{view};
 ghost use Rattle.itip_state.specs.Kept.{AreKept};
-ghost use Rattle.itip_desk.specs.Heard.{heard};
+ghost use Rattle.itip_desk.specs.HeardSteps.{heard};
 ghost use Rattle.itip_desk.specs.Desk.{IsDeskOf};
 ghost use Rattle.itip_view.specs.ListText.{IsListText};
 ghost use Rattle.itip_view.specs.Rows.{AreRows, AreTooMany, row_limit};
@@ -17,9 +17,9 @@ ghost use Rattle.itip_items.specs.contracts.item.Item as item;
 
 use crate::error::PassError;
 use crate::front::Front;
+use crate::monotonic_reads::ReadEnd;
 use crate::outside::{rows_for, rows_in, state_of, text_for, text_in};
 use crate::pair_protocol::PublishedReading;
-use crate::read_end::ReadEnd;
 use itip_desk::{Batch, Desk};
 use itip_state::{SharedItem, State};
 use itip_todo::Uid;
@@ -38,7 +38,7 @@ pub(crate) struct Look {
 }
 
 impl Look {
-    ghost use Rattle.itip_running.specs.Seen.{reader_seen};
+    ghost use Rattle.itip_running.specs.ContractViews.{reader_seen};
 
     /// The published desk.
     fn desk(&self) -> &Desk

@@ -4,7 +4,7 @@ ghost use mathlib.Core.List.{IsPrefix};
 
 use crate::error::PassError;
 use crate::front::Front;
-use crate::read_end::ReadEnd;
+use crate::monotonic_reads::ReadEnd;
 use crate::receipt::Receipt;
 use itip_desk::Batch;
 use itip_state::{SharedItem, State};
@@ -21,13 +21,13 @@ pub struct Pass {
 
 impl Pass {
     ghost use Rattle.itip_state.specs.Kept.{AreKept};
-    ghost use Rattle.itip_desk.specs.Heard.{heard};
+    ghost use Rattle.itip_desk.specs.HeardSteps.{heard};
     ghost use Rattle.itip_view.specs.ListText.{IsListText};
     ghost use Rattle.itip_view.specs.Rows.{AreRows, AreTooMany, row_limit};
     ghost use Rattle.itip_view.specs.Showing.{Shows, AreRowsWhere, AreTooManyWhere, IsListTextFor};
     ghost use Rattle.itip_running.specs.Deltas.{IsDeltaAfter};
     ghost use Rattle.itip_running.specs.Parts.{AreKeptOf};
-    ghost use Rattle.itip_running.specs.Seen.{publishes_seen, seen, pass_pair, publishes_told, told, receipt_pair};
+    ghost use Rattle.itip_running.specs.ContractViews.{publishes_seen, seen, pass_pair, publishes_told, told, receipt_pair};
 
     /// Returns the text of the task list in a window, of a list of published batches that begins with all that this pass had seen. The
     /// pass has then seen these batches.

@@ -12,7 +12,7 @@ pub struct Receipt {
 }
 
 impl Receipt {
-    ghost use Rattle.itip_running.specs.Seen.{publishes_told, told, receipt_pair};
+    ghost use Rattle.itip_running.specs.ContractViews.{publishes_told, told, receipt_pair};
 
     /// Returns a copy, which tells the same. It doesn't allocate.
     pub fn again(&self) -> Receipt

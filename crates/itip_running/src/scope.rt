@@ -2,7 +2,7 @@
 ghost use Rattle.std.specs.Prelude.{◌≡◌, [], length, Ok, All, IfOk};
 ghost use Rattle.std.specs.Fn.{FnOnceReturnsAtMut};
 ghost use Rattle.itip_desk.specs.Desk.{IsDeskOf};
-ghost use Rattle.itip_running.specs.Seen.{publishes, published, pending, keeper_pair, publishes_seen, pass_pair};
+ghost use Rattle.itip_running.specs.ContractViews.{publishes, published, pending, keeper_pair, publishes_seen, pass_pair};
 ghost use Rattle.itip_running.specs.declared.scope.OpenDesk.{OpenDesk};
 
 use crate::error::LiveError;

@@ -2,16 +2,16 @@
 ghost use Rattle.std.specs.Prelude.{◌≡◌, ◌⊎◌, ◌≤◌, [], length, Some, IfOk, IfErr, All};
 ghost use Rattle.left_right.specs.Sides.{view};
 ghost use Rattle.itip_running.specs.Pair.{name_of};
-ghost use Rattle.itip_running.specs.Seen.{publishes, pending, calls, fresh, keeper_pair, publishes_seen, pass_pair};
+ghost use Rattle.itip_running.specs.ContractViews.{publishes, pending, calls, fresh, keeper_pair, publishes_seen, pass_pair};
 
 use crate::error::LiveError;
 use crate::front::{Front, open};
 use crate::history::History;
 use crate::keeper::Keeper;
+use crate::monotonic_reads::ReadEnd;
 use crate::pair_protocol::{PublishedWriter, Sees, Tells};
 use crate::pass::Pass;
 use crate::published::Published;
-use crate::read_end::ReadEnd;
 use crate::write_end::WriteEnd;
 use left_right::writer::Writer;
 use std::alloc::Global;

@@ -35,8 +35,9 @@ pub(crate) struct WriteEnd {
 }
 
 impl WriteEnd {
-    ghost use Rattle.itip_running.specs.Seen.{shown_value, writer_groups, writer_published, writer_pending, writer_calls, writer_fresh};
-    ghost use Rattle.itip_running.specs.Seen.{writer_pair, publishes_told, IsShownCall, IsRefusedCall};
+    ghost use Rattle.itip_running.specs.ContractViews.{shown_value, writer_groups, writer_published};
+    ghost use Rattle.itip_running.specs.ContractViews.{writer_pending, writer_calls, writer_fresh};
+    ghost use Rattle.itip_running.specs.ContractViews.{writer_pair, publishes_told, IsShownCall, IsRefusedCall};
 
     /// Adds a batch after those that are pending. If an allocation fails or `usize::MAX` batches are pending, returns the batch, and
     /// nothing has changed.

@@ -11,8 +11,8 @@ ghost use Rattle.itip_state.specs.Held.{Best as HeldBest, is_killed, can_die as 
 ghost use Rattle.itip_state.specs.Due.{has, IsDue, AreDue, AreDueIn, sequence_of, IsLeft, AreAlive, item_under, items_under, AddsUnder};
 
 use crate::NoMemory;
-use crate::best_revision::Best;
 use crate::held_of_uid::{can_die, is_dead_below};
+use crate::latest_revision::Best;
 use crate::shared::SharedItem;
 use crate::slot::Slot;
 use itip_join::{Exact, Keyed, Lift, UnderGuard};

@@ -14,9 +14,9 @@ ghost use Rattle.itip_state.specs.Newer.{IsNewerOf, IsTakenIn, AreAwaited, newer
 ghost use Rattle.itip_state.specs.Told.{AreOutdone};
 
 use crate::NoMemory;
-use crate::best_revision::Best;
 use crate::held::Held;
 use crate::held_of_uid::{of_nothing, put_back};
+use crate::latest_revision::Best;
 use crate::shared::SharedItem;
 use crate::slot::Slot;
 use crate::told::outdoes_all;

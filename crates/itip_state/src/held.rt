@@ -14,9 +14,9 @@ ghost use Rattle.itip_state.specs.Due.{AddsUnderAt};
 ghost use Rattle.itip_state.specs.Raised.{IsRaisedAt};
 
 use crate::NoMemory;
-use crate::best_revision::Best;
 use crate::due::{Due, share_under};
 use crate::held_of_uid::{HeldOfUid, of_item, of_nothing, raised, share};
+use crate::latest_revision::Best;
 use crate::shared::SharedItem;
 use crate::tracked::{follow, keep};
 use itip_items::Item;

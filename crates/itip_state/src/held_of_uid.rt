@@ -15,8 +15,8 @@ ghost use Rattle.itip_state.specs.Due.{AreDueIn};
 ghost use Rattle.itip_state.specs.Joined.{IsJoined};
 
 use crate::NoMemory;
-use crate::best_revision::Best;
 use crate::due::{Due, drop_dead};
+use crate::latest_revision::Best;
 use crate::shared::SharedItem;
 use crate::slot::Slot;
 use itip_items::{Item, Key};

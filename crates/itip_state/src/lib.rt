@@ -4,12 +4,12 @@
 //! gives their least upper bound.
 #![tactic(auto)]
 
-mod best_revision;
 mod due;
 mod hear;
 mod held;
 mod held_of_uid;
 mod items_of_uid;
+mod latest_revision;
 mod laws;
 mod organizers;
 mod parts;
@@ -20,8 +20,8 @@ mod state;
 mod told;
 mod tracked;
 
-pub use best_revision::Revision;
 pub use items_of_uid::ItemsOfUid;
+pub use latest_revision::Revision;
 pub use laws::{kept_of_kept, least_upper_bound, order_of_states, uid_by_uid};
 pub use plain::kept;
 pub use shared::{SharedItem, by_octets, uids};

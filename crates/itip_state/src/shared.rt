@@ -9,7 +9,7 @@ ghost use Rattle.itip_state.specs.Held.{IsPlaceOf};
 ghost use Rattle.itip_state.specs.Kept.{IsItemsOf, AreUidsOf};
 
 use crate::NoMemory;
-use crate::best_revision::Revision;
+use crate::latest_revision::Revision;
 use crate::slot::Slot;
 use itip_items::{Item, Key};
 use itip_join::Exact;

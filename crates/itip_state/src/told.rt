@@ -5,9 +5,9 @@ ghost use Rattle.itip_state.specs.Held.{items_of, AreHeld};
 ghost use Rattle.itip_state.specs.UidStates.{uid_state};
 ghost use Rattle.itip_state.specs.Told.{IsOutdone, AreOutdone, HoldsNoEarlier};
 
-use crate::best_revision::Best;
 use crate::held::Held;
 use crate::held_of_uid::{HeldOfUid, is_dead_below};
+use crate::latest_revision::Best;
 use crate::shared::SharedItem;
 use itip_items::Item;
 use itip_join::Lift;

@@ -14,7 +14,7 @@ use Rattle.itip_state.specs.Kept.{AreKept, AreUidsOf}
 use Rattle.itip_state.proofs.Keeping.{kept_again}
 use Rattle.itip_state.proofs.Members.{by_bool, none_in, cons_first}
 use Rattle.itip_state.proofs.OneOrder.{less_one_way}
-use Rattle.itip_view.specs.MostRows.{HasRows, HasMost, IsMostOf, IsMostAmong}
+use Rattle.itip_view.specs.UidWithMostRows.{HasRows, HasMost, IsMostOf, IsMostAmong}
 use Rattle.itip_view.specs.Rows.{IsRow}
 use Rattle.itip_view.specs.Showing.{AreRowsWhere, IsOf}
 use Rattle.itip_view.specs.declared.row_count.MostRows.{MostRows}

@@ -20,7 +20,7 @@ use Rattle.itip_state.specs.Kept.{AscendTexts}
 use Rattle.itip_state.proofs.Members.{by_bool, cons_cases, cons_first, cons_later, pairs_append}
 use Rattle.itip_state.proofs.OfKey.{head_pair, tail_pairs}
 use Rattle.itip_view.specs.ByUid.{uids_of, IsAskedFor, AreFewLeft, AreLeft, AreAsked, AreTooManyLeft, IsCountOf}
-use Rattle.itip_view.specs.MostRows.{HasRows, HasMost, HasMostAmong, IsCountAmong}
+use Rattle.itip_view.specs.UidWithMostRows.{HasRows, HasMost, HasMostAmong, IsCountAmong}
 use Rattle.itip_view.specs.Rows.{IsRow, moment_of, row_cmp, row_limit}
 use Rattle.itip_view.specs.Showing.{AreRowsWhere, AreTooManyWhere, IsAmong, IsOf}
 use Rattle.itip_view.specs.Wanting.{Wants}

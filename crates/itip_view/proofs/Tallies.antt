@@ -6,7 +6,7 @@ use Rattle.std.specs.Ordering.{nat_cmp}
 use Rattle.std.specs.Cmp.Lexicographic.{slice_cmp}
 use Rattle.std.specs.declared.cmp.Ordering.TheVariants.{Less}
 use Rattle.itip_items.specs.declared.item.Item.{Item}
-use Rattle.itip_view.specs.MostRows.{HasRows, IsCountAmong}
+use Rattle.itip_view.specs.UidWithMostRows.{HasRows, IsCountAmong}
 use Rattle.itip_view.specs.Rows.{row_limit}
 use Rattle.itip_view.specs.Showing.{AreRowsWhere, IsAmong}
 use Rattle.itip_view.specs.declared.row_count.RowCount.TheVariants.{Few, TooMany}

@@ -2,7 +2,7 @@
 use Rattle.std.specs.Prelude.{◌≡◌, ◌↔◌, ◌≤◌, ℕ, List, [], ◌∷◌, ◌++◌, length, drop, map, Option, Some, None}
 use Rattle.itip_items.specs.declared.item.Item.{Item}
 use Rattle.itip_view.specs.ListText.{list_text}
-use Rattle.itip_view.specs.MostRows.{HasMost}
+use Rattle.itip_view.specs.UidWithMostRows.{HasMost}
 use Rattle.itip_view.specs.Rows.{IsRow, row_limit}
 use Rattle.itip_view.specs.Showing.{AreRowsWhere, AreTooManyWhere, IsAmong, IsOf}
 use Rattle.itip_view.specs.Wanting.{Wants}

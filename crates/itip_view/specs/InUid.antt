@@ -6,7 +6,7 @@ use Rattle.itip_state.specs.OfUid.{UidPart}
 use Rattle.itip_view.specs.RowsOfUid.{IsWhole, IsBetween, IsOccurrence, ArePlaces, AreRowsOf}
 use Rattle.itip_view.specs.Rows.{NoneStandsAtStart}
 use Rattle.itip_view.specs.Standing.{Stands, NoneStands, Rules, NoneRules, IsLiveSeries}
-use Rattle.itip_view.specs.declared.rows_of_uid.UidView.{UidView}
+use Rattle.itip_view.specs.declared.live_rows.UidView.{UidView}
 use Rattle.itip_view.specs.declared.row.Row.{Row}
 use Rattle.itip_view.specs.declared.window.Window.{Window}
 

@@ -17,7 +17,7 @@ pub mod Wanted
 pub mod UnmadeRows
 pub mod PutRows
 pub mod AscendingUids
-pub mod MostRows
+pub mod UidWithMostRows
 pub mod ByUid
 pub mod RowDays
 pub mod InQuestion

@@ -4,7 +4,7 @@ ghost use Rattle.itip_view.specs.AscendingUids.{AreAscendingUids, AreAscendingUi
 
 use crate::NoMemory;
 use crate::error::ViewError;
-use crate::list_text::text_by_uid;
+use crate::list_within_limit::text_within_limit;
 use crate::row::Row;
 use crate::row_count::{RowCount, count_among};
 use crate::uid_order::{rows_by_uid, sorted_uids};
@@ -128,7 +128,7 @@ impl<'s, 'w> RowsByUid<'s, 'w> {
         ensures many { IsErrOf result ViewError.TooManyRows → AreTooManyLeft self.now }
         ensures succeeds { uids_of self.now ≡ [] → IsOk result }
     {
-        text_by_uid(
+        text_within_limit(
             self.alloc,
             self.state,
             self.left(),

@@ -16,7 +16,7 @@ ghost use Rattle.itip_view.specs.ListText.{IsListText};
 ghost use Rattle.itip_todo.specs.Table.{attendee_key};
 ghost use Rattle.itip_view.specs.RowDays.{HasRowsIn, NamesIn};
 ghost use Rattle.itip_view.specs.Showing.{Shows, AreRowsWhere, AreTooManyWhere, IsListTextFor};
-ghost use Rattle.itip_view.specs.MostRows.{IsMostOf};
+ghost use Rattle.itip_view.specs.UidWithMostRows.{IsMostOf};
 ghost use Rattle.itip_view.specs.Wanting.{Wants};
 ghost use Rattle.itip_view.specs.declared.row_count.MostRows.{MostRows};
 ghost use Rattle.itip_view.specs.declared.row.Row.{Row};

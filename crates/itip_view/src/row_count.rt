@@ -1,7 +1,7 @@
 //! How many rows there are, and which to-do has the most of them.
 ghost use Rattle.std.specs.Prelude.{IfOk, map};
 ghost use Rattle.itip_state.specs.Kept.{AscendTexts};
-ghost use Rattle.itip_view.specs.MostRows.{IsCountAmong};
+ghost use Rattle.itip_view.specs.UidWithMostRows.{IsCountAmong};
 ghost use Rattle.itip_view.specs.Wanting.{Wants};
 
 use crate::NoMemory;

@@ -1,13 +1,13 @@
 //! The rows of one UID that are asked for.
 ghost use Rattle.std.specs.Prelude.{IfOk};
-ghost use Rattle.itip_view.specs.MostRows.{HasRows};
+ghost use Rattle.itip_view.specs.UidWithMostRows.{HasRows};
 ghost use Rattle.itip_view.specs.PutRows.{PutsRows};
 ghost use Rattle.itip_view.specs.Showing.{AreRowsWhere, IsOf};
 ghost use Rattle.itip_view.specs.Wanting.{Wants};
 
 use crate::NoMemory;
+use crate::live_rows::{count_of_uid, put_rows_of_uid, rows_of_uid};
 use crate::row::Row;
-use crate::rows_of_uid::{count_of_uid, put_rows_of_uid, rows_of_uid};
 use crate::wanted::Wanted;
 use crate::window::Window;
 use itip_state::State;

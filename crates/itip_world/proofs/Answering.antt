@@ -13,7 +13,7 @@ use Rattle.itip_report.specs.NextSequence.{IsNext}
 use Rattle.itip_report.specs.declared.report_name.ReportName.{ReportName}
 use Rattle.itip_report.proofs.NamedReports.{report_of_kept}
 use Rattle.itip_report.proofs.OfKept.{resend_of_kept, next_of_kept}
-use Rattle.itip_desk.specs.Heard.{heard}
+use Rattle.itip_desk.specs.HeardSteps.{heard}
 use Rattle.itip_desk.specs.declared.refusal.Refusal.{Refusal}
 use Rattle.itip_desk.specs.declared.refusal.Refusal.TheVariants as refusal
 use Rattle.itip_desk.specs.Desk.{Shown}

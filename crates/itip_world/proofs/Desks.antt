@@ -7,7 +7,7 @@ use Rattle.itip_state.specs.Kept.{HasEachOnce}
 use Rattle.itip_state.proofs.Members.{none_in, cons_first, no_pairs}
 use Rattle.std.specs.List.{Contains}
 use Rattle.itip_desk.specs.Desk.{Shown, IsDeskOf}
-use Rattle.itip_desk.specs.Heard.{heard}
+use Rattle.itip_desk.specs.HeardSteps.{heard}
 use Rattle.itip_desk.proofs.Steps.{nothing_more}
 use Rattle.itip_world.specs.Worlds.{History, Histories, CountsKept, entries_shown, IsDeskAfter, AreDesksOf, with_one_more, with_step}
 use Rattle.itip_world.specs.Worlds.{history_from, histories_from}

@@ -23,7 +23,7 @@ use Rattle.itip_report.specs.declared.report_name.ReportName.{ReportName}
 use Rattle.itip_report.proofs.NamedReports.{report_alike, one_named, named_or_too_many}
 use Rattle.itip_report.proofs.OfKept.{resend_alike, next_alike}
 use Rattle.itip_report.proofs.OneReport.{one_resend, one_next}
-use Rattle.itip_desk.specs.Heard.{heard}
+use Rattle.itip_desk.specs.HeardSteps.{heard}
 use Rattle.itip_desk.specs.Ticks.{TickStep, Ticks, MovedAfter}
 use Rattle.itip_world.specs.Worlds.{History, Past, no_past, Takes, Hears, EventStep, CountsKept}
 use Rattle.itip_world.specs.Worlds.{IsSpent, IsPacketOf, IsBatchOf, desk_of, LacksOnlyPacket}

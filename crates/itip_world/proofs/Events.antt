@@ -6,11 +6,11 @@ use Rattle.itip_message.specs.declared.error.MessageRefusal.{MessageRefusal}
 use Rattle.itip_items.specs.declared.item.Item.{Item}
 use Rattle.itip_state.specs.Kept.{AreKept, SameItems}
 use Rattle.itip_desk.specs.Desk.{Shown, IsDeskOf, IsDeltaOf}
-use Rattle.itip_desk.specs.Heard.{heard}
+use Rattle.itip_desk.specs.HeardSteps.{heard}
 use Rattle.itip_desk.specs.Ticks.{Ticks}
 use Rattle.itip_desk.specs.Octets.{AscendOctets}
 use Rattle.itip_desk.proofs.Steps.{moved_of_all, moved_whole, keep_same_down}
-use Rattle.itip_desk.specs.Delta.{delta_octets}
+use Rattle.itip_desk.specs.DeltaFormat.{delta_octets}
 use Rattle.itip_desk.specs.declared.refusal.Refusal.TheVariants as refusal
 use Rattle.itip_world.specs.Worlds.{Past, past_with_step, past_with_packet, with_one_more, with_step, ShownWorld, IsWorldOf, HasPast}
 use Rattle.itip_world.specs.Worlds.{AreDesksOf, ArePacketTexts, EventStep, Steps, Spends, StopsFor, StopsHearing, HearsBatch, IsAtLastTick}

@@ -11,7 +11,7 @@ use Rattle.itip_items.specs.KeyParts.{uid_of}
 use Rattle.itip_items.specs.declared.item.Item.{Item}
 use Rattle.itip_state.specs.Kept.{IsKept}
 use Rattle.itip_desk.specs.Desk.{Shown, IsDeskOf, IsDeltaOf, CarriesAfter}
-use Rattle.itip_desk.specs.Heard.{heard}
+use Rattle.itip_desk.specs.HeardSteps.{heard}
 use Rattle.itip_desk.proofs.Told.{kept_alike}
 use Rattle.itip_world.specs.Worlds.{History, IsPacketOf, IsBatchOf, IsPacketText, ArePacketTexts}
 use Rattle.itip_world.proofs.Ascending.{IsIn, in_contained, contained_in}

@@ -14,7 +14,7 @@ use Rattle.itip_items.specs.declared.item.Item.{Item}
 use Rattle.itip_state.specs.Kept.{SameItems, KeepSame, AreMoved}
 use Rattle.itip_state.proofs.Keeping.{kept_iff}
 use Rattle.itip_state.proofs.OneOrder.{less_one_way, same_ascending}
-use Rattle.itip_desk.specs.Heard.{heard}
+use Rattle.itip_desk.specs.HeardSteps.{heard}
 use Rattle.itip_desk.specs.Ticks.{TickStep, Ticks}
 use Rattle.itip_world.specs.Worlds.{History, with_one_more, Histories, with_step}
 use Rattle.itip_world.specs.Worlds.{histories_from}

@@ -4,7 +4,7 @@ use Rattle.itip_items.specs.declared.item.Item.{Item}
 use Rattle.itip_state.specs.Kept.{AreKept, IsKept, KeepSame}
 use Rattle.itip_state.proofs.Keeping.{covers_itself, covers_kept, kept_of_parts}
 use Rattle.itip_desk.specs.Desk.{Shown, IsDeskOf}
-use Rattle.itip_desk.specs.Heard.{heard}
+use Rattle.itip_desk.specs.HeardSteps.{heard}
 use Rattle.itip_desk.specs.Ticks.{TickStep, Ticks, MovedAfter}
 use Rattle.itip_desk.proofs.Steps.{heard-append}
 

@@ -1,5 +1,5 @@
 pub use Rattle.itip_state.specs.Kept
-pub use Rattle.itip_desk.specs.Heard
+pub use Rattle.itip_desk.specs.HeardSteps
 pub use Rattle.itip_desk.specs.Ticks
 pub use Rattle.itip_desk.specs.Desk
 pub mod Worlds

@@ -10,7 +10,7 @@ use Rattle.itip_view.specs.declared.window.Window.{Window}
 use Rattle.itip_view.specs.Rows.{AreRows, AreTooMany, row_limit}
 use Rattle.itip_view.specs.Showing.{Shows, AreRowsWhere, AreTooManyWhere}
 use Rattle.itip_view.specs.declared.row.Row.{Row}
-use Rattle.itip_desk.specs.Heard.{heard}
+use Rattle.itip_desk.specs.HeardSteps.{heard}
 use Rattle.itip_desk.specs.Listed.{listed_text, listed_for_text}
 use Rattle.itip_desk.specs.Refusals.{number_of, refused_text}
 use Rattle.itip_desk.specs.declared.refusal.Refusal.{Refusal}

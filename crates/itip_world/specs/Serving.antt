@@ -7,7 +7,7 @@ use Rattle.itip_view.specs.declared.window.Window.{Window}
 use Rattle.itip_lines.specs.declared.error.LineCause.TheVariants.{TooLong}
 use Rattle.itip_message.specs.Refusals.{of_lines}
 use Rattle.itip_items.specs.declared.item.Item.{Item}
-use Rattle.itip_desk.specs.Delta.{delta_octets, GivesBatch, ReadsDelta, RefusesDelta}
+use Rattle.itip_desk.specs.DeltaFormat.{delta_octets, GivesBatch, ReadsDelta, RefusesDelta}
 use Rattle.itip_message.specs.Message.{RefusesMessage}
 use Rattle.itip_desk.specs.Desk.{Shown, IsDeltaOf}
 use Rattle.itip_desk.specs.declared.refusal.Refusal.{Refusal}

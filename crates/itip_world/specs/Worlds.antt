@@ -4,14 +4,14 @@ use Rattle.itip_message.specs.Message.{ReadsMessage, RefusesMessage}
 use Rattle.itip_message.specs.declared.error.MessageRefusal.{MessageRefusal}
 use Rattle.itip_items.specs.declared.item.Item.{Item}
 use Rattle.itip_state.specs.Kept.{AreKept, SameItems, AreMoved, Moves, HasEachOnce}
-use Rattle.itip_desk.specs.Heard.{heard}
+use Rattle.itip_desk.specs.HeardSteps.{heard}
 use Rattle.itip_desk.specs.Ticks.{Ticks, TellsAfter}
 use Rattle.itip_desk.specs.Desk.{Shown, IsDeskOf}
 use Rattle.itip_desk.specs.Octets.{AscendOctets}
 use Rattle.itip_desk.specs.declared.refusal.Refusal.{Refusal}
 use Rattle.itip_desk.specs.declared.refusal.Refusal.TheVariants.{Message, TicksSpent, TooManyRows, NoDesk, NoPacket, NoCommand, LongScript}
 use Rattle.itip_desk.specs.declared.refusal.Refusal.TheVariants.{LongDelta, File}
-use Rattle.itip_desk.specs.Delta.{delta_octets}
+use Rattle.itip_desk.specs.DeltaFormat.{delta_octets}
 use Rattle.itip_world.specs.declared.event.Event.{Event}
 use Rattle.itip_world.specs.declared.event.Event.TheVariants.{Deliver, Post, Arrive}
 use Rattle.itip_world.specs.declared.event.Outcome.{Outcome}

@@ -1,6 +1,6 @@
 //! What a desk hears: a batch, a message or a delta; or why it hears nothing.
 ghost use Rattle.std.specs.Prelude.{◌≡◌, OnErr, IfOk, IfErr};
-ghost use Rattle.itip_desk.specs.Delta.{GivesBatch, ReadsDelta, RefusesDelta};
+ghost use Rattle.itip_desk.specs.DeltaFormat.{GivesBatch, ReadsDelta, RefusesDelta};
 ghost use Rattle.itip_message.specs.Message.{RefusesMessage};
 ghost use Rattle.itip_world.specs.Looking.{HearsNow, HearsOctets, StopsOctets, read_as};
 ghost use Rattle.itip_world.specs.Worlds.{HearsBatch, StopsHearing};

@@ -18,7 +18,7 @@ impl Model for Packet {
 
     ghost Value = { List ℕ };
 
-    ghost use Rattle.itip_desk.specs.Delta.{delta_octets};
+    ghost use Rattle.itip_desk.specs.DeltaFormat.{delta_octets};
 
     ghost view = { λ p. delta_octets p.batch };
 
@@ -29,7 +29,7 @@ impl Model for Packet {
 
 impl Packet {
     ghost use Rattle.itip_desk.specs.Octets.{AscendOctets};
-    ghost use Rattle.itip_desk.specs.Delta.{delta_octets, IsDelta};
+    ghost use Rattle.itip_desk.specs.DeltaFormat.{delta_octets, IsDelta};
 
     /// The bytes of a batch. Doesn't allocate.
     pub(crate) fn of_batch(batch: Batch) -> Packet

@@ -7,7 +7,7 @@ use Rattle.std.specs.List.{AllByRecursion, list_all, list_any}
 use Rattle.std.proofs.lemmas.Bool.{and_parts, and_from}
 use Rattle.std.proofs.lemmas.Bool.Decides.{nat_tests}
 use Rattle.std.proofs.lemmas.List.Folds.{list_all-append}
-use Rattle.itip_lines.specs.Cutting.{NumberedText, texts_of, numbered_lines_of, without_empty, is_blank}
+use Rattle.itip_lines.specs.UnfoldedLines.{NumberedText, texts_of, numbered_lines_of, without_empty, is_blank}
 use Rattle.itip_lines.specs.Lawful.{line_limit, value_text, values_text, param_text, params_text, line_text, IsName, IsParamValue}
 use Rattle.itip_lines.specs.Lawful.{IsLawfulParam}
 use Rattle.itip_lines.specs.Octets.{is_upper_name_octet, is_value_octet, is_quotable_octet, is_separator}

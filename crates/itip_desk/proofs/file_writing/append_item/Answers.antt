@@ -4,7 +4,7 @@ use Rattle.itip_items.specs.KeyParts.{uid_of}
 use Rattle.itip_items.specs.declared.item.Item.{Item}
 use Rattle.itip_state.proofs.Members.{on_ok_then}
 use Rattle.itip_desk.specs.DeskFile.{message_text, moved_at}
-use Rattle.itip_desk.specs.Moves.{tick_at}
+use Rattle.itip_desk.specs.MovedSince.{tick_at}
 use Rattle.itip_desk.proofs.file_writing.append_item.Goals as goal
 
 pub returns : goal.returns

@@ -1,7 +1,7 @@
 use Rattle.std.proofs.Common.{subst, List}
 use Rattle.std.specs.Io.KnownBytes.{Appends}
 use Rattle.itip_items.specs.declared.item.Item.{Item}
-use Rattle.itip_desk.specs.Delta.{delta_octets}
+use Rattle.itip_desk.specs.DeltaFormat.{delta_octets}
 use Rattle.itip_streams.specs.Written.{AppendsFront}
 use Rattle.itip_inbox.specs.Compaction.{IsCompaction}
 use Rattle.itip_inbox.proofs.OfInbox.{unread_front}

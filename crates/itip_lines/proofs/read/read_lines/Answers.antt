@@ -1,8 +1,8 @@
 use Rattle.std.proofs.Common.{List, [], refl, subst, arith}
 use Rattle.std.proofs.lemmas.Result.{err_from_is_err_and}
-use Rattle.itip_lines.specs.Cutting.{NumberedText}
-use Rattle.itip_lines.specs.ScanSteps.{AreUtf8}
-use Rattle.itip_lines.proofs.Scans.{more_read, all_read, refused_line}
+use Rattle.itip_lines.specs.UnfoldedLines.{NumberedText}
+use Rattle.itip_lines.specs.UnfoldSteps.{AreUtf8}
+use Rattle.itip_lines.proofs.UnfoldRuns.{more_read, all_read, refused_line}
 use Rattle.itip_lines.proofs.Utf8Lines.{utf8_lines}
 use Rattle.itip_lines.proofs.read.read_lines.Goals as goal
 

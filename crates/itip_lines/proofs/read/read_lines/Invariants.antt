@@ -1,7 +1,7 @@
 use Rattle.std.proofs.Common.{◌≤◌}
 use Rattle.std.specs.Prelude.{IsTrue}
 use Rattle.itip_lines.specs.Stretches.{texts_behind, HasRead}
-use Rattle.itip_lines.specs.ScanSteps.{AreUtf8, left_behind, last_behind, number_limit}
+use Rattle.itip_lines.specs.UnfoldSteps.{AreUtf8, left_behind, last_behind, number_limit}
 use Rattle.itip_lines.proofs.read.read_lines.Given as goal
 
 abbrev pub invariant-loop-rest : goal.invariant-loop-rest

@@ -1,9 +1,9 @@
 use Rattle.std.proofs.Common.{◌∙◌, List, [], ap, subst}
 use Rattle.std.proofs.lemmas.Result.{err_from_is_err_and}
-use Rattle.itip_lines.specs.Cutting.{NumberedText}
+use Rattle.itip_lines.specs.UnfoldedLines.{NumberedText}
 use Rattle.itip_lines.specs.Stretches.{texts_behind}
-use Rattle.itip_lines.specs.ScanSteps.{AreUtf8, texts_by}
-use Rattle.itip_lines.proofs.Scans.{next_refusal}
+use Rattle.itip_lines.specs.UnfoldSteps.{AreUtf8, texts_by}
+use Rattle.itip_lines.proofs.UnfoldRuns.{next_refusal}
 use Rattle.itip_lines.proofs.read.read_next.Goals as goal
 
 pub push_line-requires : goal.push_line-requires

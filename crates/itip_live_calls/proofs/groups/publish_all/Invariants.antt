@@ -1,5 +1,5 @@
 use Rattle.std.proofs.Common.{◌≡◌}
-use Rattle.itip_running.specs.Seen.{keeper_pair}
+use Rattle.itip_running.specs.ContractViews.{keeper_pair}
 use Rattle.itip_live_calls.proofs.groups.publish_all.Given as goal
 
 abbrev pub invariant-loop-number : goal.invariant-loop-number

@@ -1,4 +1,4 @@
-use Rattle.itip_running.specs.Seen.{keeper_pair}
+use Rattle.itip_running.specs.ContractViews.{keeper_pair}
 use Rattle.itip_live_calls.proofs.groups.started.Given as goal
 
 -- the pair that was just started

@@ -1,4 +1,4 @@
-use Rattle.itip_running.specs.Seen.{pass_pair}
+use Rattle.itip_running.specs.ContractViews.{pass_pair}
 use Rattle.itip_live_calls.proofs.office.answered.Given as goal
 
 -- the pair that was just started

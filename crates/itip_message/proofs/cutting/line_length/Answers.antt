@@ -3,7 +3,7 @@ use Rattle.std.proofs.Common.{length, length-append, arith}
 use Rattle.std.specs.Prelude.{◌&&◌}
 use Rattle.std.proofs.lemmas.Bool.{ne_eqb}
 use Rattle.std.proofs.lemmas.List.Elements.{All-head, All-tail}
-use Rattle.itip_lines.specs.Cutting.{HasNoLf}
+use Rattle.itip_lines.specs.UnfoldedLines.{HasNoLf}
 use Rattle.itip_message.specs.Scanned.{begins_blank, line_length}
 use Rattle.itip_message.proofs.cutting.line_length.Goals as goal
 

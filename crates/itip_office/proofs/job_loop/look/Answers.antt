@@ -2,7 +2,7 @@ use Rattle.std.proofs.Common.{rules, ◌≡◌, ◌∙◌, [], ◌∷◌, ap, re
 use Rattle.std.proofs.lemmas.Result.{IfOk-at_ok}
 use Rattle.itip_view.specs.ListText.{IsListText}
 use Rattle.itip_view.specs.Rows.{AreTooMany}
-use Rattle.itip_desk.specs.Heard.{heard}
+use Rattle.itip_desk.specs.HeardSteps.{heard}
 use Rattle.itip_desk.specs.declared.refusal.Refusal.TheVariants.{TooManyRows}
 use Rattle.itip_office.specs.declared.job.Work.TheVariants.{Look}
 use Rattle.itip_office.specs.declared.outcome.Outcome.TheVariants.{Looked, Refused}

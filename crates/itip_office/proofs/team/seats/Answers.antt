@@ -1,7 +1,7 @@
 use Rattle.std.proofs.Common.{rules, ◌≡◌, sym, subst, All}
 use Rattle.std.specs.Vec.Iter.{into_iter_items}
 use Rattle.std.proofs.lemmas.List.Elements.{All-head, All-tail}
-use Rattle.itip_running.specs.Seen.{pass_pair}
+use Rattle.itip_running.specs.ContractViews.{pass_pair}
 use Rattle.itip_running.specs.declared.pass.Pass.{Pass}
 use Rattle.itip_office.proofs.team.seats.Goals as goal
 

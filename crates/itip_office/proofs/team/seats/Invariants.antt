@@ -1,6 +1,6 @@
 use Rattle.std.proofs.Common.{◌≡◌, All}
 use Rattle.std.specs.Vec.Iter.{into_iter_items}
-use Rattle.itip_running.specs.Seen.{pass_pair}
+use Rattle.itip_running.specs.ContractViews.{pass_pair}
 use Rattle.itip_office.proofs.team.seats.Given as goal
 
 abbrev pub invariant-loop-pass : goal.invariant-loop-pass

@@ -1,9 +1,9 @@
 use Rattle.std.proofs.Common.{◌≡◌, ◌↔◌, IsTrue, true, false, sym, subst, Option, Some, None}
 use Rattle.itip_moment.specs.declared.moment.Moment.{Moment}
 use Rattle.itip_recur.specs.declared.rule.Rule.{Rule}
-use Rattle.itip_recur.specs.declared.rule_days.RuleDays.{RuleDays}
+use Rattle.itip_recur.specs.declared.prepared_rule.PreparedRule.{PreparedRule}
 use Rattle.itip_recur.specs.Members.{IsRuleMember}
-use Rattle.itip_recur.specs.RuleDays.{AreDaysOf}
+use Rattle.itip_recur.specs.PreparedRule.{IsPreparedSeries}
 use Rattle.itip_recur.proofs.AskedDays.{never, other_member}
 use Rattle.itip_recur.proofs.occurring.has_member.Goals as goal
 

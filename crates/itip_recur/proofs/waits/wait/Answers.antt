@@ -1,6 +1,6 @@
 use Rattle.std.proofs.Common.{arith, FitsSigned, w32, to_z-of_z, IsTrue}
 use Rattle.jiff_core.proofs.SignedLemmas.{signed_arith}
-use Rattle.itip_recur.specs.Pattern.{IsWeekDay}
+use Rattle.itip_recur.specs.SelectedDays.{IsWeekDay}
 use Rattle.itip_recur.proofs.WaitDays.{one_day}
 use Rattle.itip_recur.proofs.waits.wait.Goals as goal
 

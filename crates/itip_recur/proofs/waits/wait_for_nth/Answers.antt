@@ -1,7 +1,7 @@
 use Rattle.std.proofs.Common.{◌≡◌, ◌+◌, arith, FitsSigned, w32, to_z, to_z-of_z, pos, ◌+ℤ◌}
 use Rattle.std.proofs.lemmas.Int.{ints}
 use Rattle.jiff_core.proofs.SignedLemmas.{signed_arith}
-use Rattle.itip_recur.specs.Pattern.{IsOnWeekday}
+use Rattle.itip_recur.specs.SelectedDays.{IsOnWeekday}
 use Rattle.itip_recur.specs.Waits.{IsNone}
 use Rattle.itip_recur.proofs.WaitDays.{no_nth}
 use Rattle.itip_recur.proofs.waits.wait_for_nth.Goals as goal

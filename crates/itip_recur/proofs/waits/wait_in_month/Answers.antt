@@ -1,6 +1,6 @@
 use Rattle.std.proofs.Common.{◌+ℤ◌, ℤ, pos, arith, FitsSigned, w32, to_z-of_z}
 use Rattle.jiff_core.proofs.SignedLemmas.{signed_arith}
-use Rattle.itip_recur.specs.Pattern.{IsMonthDay}
+use Rattle.itip_recur.specs.SelectedDays.{IsMonthDay}
 use Rattle.itip_recur.specs.Waits.{IsNone}
 use Rattle.itip_recur.proofs.WaitDays.{and_behind}
 use Rattle.itip_recur.proofs.waits.wait_in_month.Goals as goal

@@ -1,7 +1,7 @@
 use Rattle.std.proofs.Common.{arith, FitsSigned, w32, to_z-of_z}
 use Rattle.std.proofs.lemmas.Bool.{both_ways}
 use Rattle.jiff_core.proofs.SignedLemmas.{signed_arith}
-use Rattle.itip_recur.specs.Pattern.{IsYearDay}
+use Rattle.itip_recur.specs.SelectedDays.{IsYearDay}
 use Rattle.itip_recur.proofs.MonthShapes.{names_same, names_of_day}
 use Rattle.itip_recur.proofs.WaitDays.{one_day, in_rest}
 use Rattle.itip_recur.proofs.waits.wait_in_year.Goals as goal

@@ -1,6 +1,6 @@
 use Rattle.std.proofs.Common.{◌≡◌, ◌≤ℤ◌, arith, FitsSigned, w32, to_z, to_z-of_z, pos, ◌+ℤ◌, ◌-ℤ◌}
 use Rattle.jiff_core.proofs.SignedLemmas.{signed_arith}
-use Rattle.itip_recur.specs.Pattern.{IsSelected}
+use Rattle.itip_recur.specs.SelectedDays.{IsSelected}
 use Rattle.itip_recur.specs.Waits.{IsNone}
 use Rattle.itip_recur.proofs.UnitWalks.{then, up_to, found_at}
 use Rattle.itip_recur.proofs.walk.first_date.Goals as goal

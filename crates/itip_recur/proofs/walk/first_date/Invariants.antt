@@ -1,5 +1,5 @@
 use Rattle.std.proofs.Common.{◌≡◌, ◌-ℤ◌, ◌≤ℤ◌, unsigned_abs}
-use Rattle.itip_recur.specs.Pattern.{IsSelected}
+use Rattle.itip_recur.specs.SelectedDays.{IsSelected}
 use Rattle.itip_recur.specs.Waits.{IsNone}
 use Rattle.itip_recur.proofs.walk.first_date.Given as goal
 

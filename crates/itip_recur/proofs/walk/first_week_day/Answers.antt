@@ -2,7 +2,7 @@ use Rattle.std.proofs.Common.{◌≡◌, ◌↔◌, ◌<◌, arith, FitsSigned, 
 use Rattle.std.proofs.lemmas.Int.{ints}
 use Rattle.jiff_core.proofs.SignedLemmas.{signed_arith}
 use Rattle.itip_recur.specs.Calendar.{weekday_number}
-use Rattle.itip_recur.specs.Pattern.{IsWeekDay}
+use Rattle.itip_recur.specs.SelectedDays.{IsWeekDay}
 use Rattle.itip_recur.specs.Sets.{has_number}
 use Rattle.itip_recur.proofs.WeekMasks.{none_in_week, first_in_week}
 use Rattle.itip_recur.proofs.walk.first_week_day.Goals as goal

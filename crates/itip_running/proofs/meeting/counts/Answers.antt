@@ -3,7 +3,7 @@ use Rattle.std.proofs.lemmas.List.{take_more, take_all, map-append}
 use Rattle.std.proofs.lemmas.List.Elements.{All-push}
 use mathlib.Core.List.{IsPrefix}
 use Rattle.itip_running.specs.declared.pass.Pass.{Pass}
-use Rattle.itip_running.specs.Seen.{publishes_seen, seen}
+use Rattle.itip_running.specs.ContractViews.{publishes_seen, seen}
 use Rattle.itip_running.proofs.meeting.counts.Goals as goal
 
 pub loop-pass-preserved : goal.loop-pass-preserved

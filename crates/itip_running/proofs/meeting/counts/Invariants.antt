@@ -1,6 +1,6 @@
 use Rattle.std.proofs.Common.{◌≡◌, length, map, take, All}
 use mathlib.Core.List.{IsPrefix}
-use Rattle.itip_running.specs.Seen.{publishes_seen, seen}
+use Rattle.itip_running.specs.ContractViews.{publishes_seen, seen}
 use Rattle.itip_running.proofs.meeting.counts.Given as goal
 
 abbrev pub invariant-loop-pass : goal.invariant-loop-pass

@@ -5,7 +5,7 @@ use Rattle.itip_desk.specs.Desk.{IsDeskOf}
 use Rattle.itip_desk.proofs.Stable.{desk_of}
 use Rattle.itip_running.specs.History.{Items, Group, batches_of}
 use Rattle.itip_running.specs.declared.pass.Pass.{Pass}
-use Rattle.itip_running.specs.Seen.{publishes, published, publishes_seen, seen}
+use Rattle.itip_running.specs.ContractViews.{publishes, published, publishes_seen, seen}
 use Rattle.itip_running.proofs.Groups.{prefix_batches}
 use Rattle.itip_running.proofs.meeting.meet.Goals as goal
 

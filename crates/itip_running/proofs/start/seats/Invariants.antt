@@ -1,7 +1,7 @@
 use Rattle.std.proofs.Common.{◌≡◌, length, Some, All}
 use Rattle.left_right.specs.Sides.{view}
 use Rattle.itip_running.specs.Pair.{name_of}
-use Rattle.itip_running.specs.Seen.{publishes_seen, pass_pair}
+use Rattle.itip_running.specs.ContractViews.{publishes_seen, pass_pair}
 use Rattle.itip_running.proofs.start.seats.Given as goal
 
 abbrev pub invariant-loop : goal.invariant-loop

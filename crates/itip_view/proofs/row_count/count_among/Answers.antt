@@ -8,7 +8,7 @@ use Rattle.std.specs.declared.cmp.Ordering.TheVariants.{Less}
 use Rattle.std.proofs.lemmas.List.{length-map, take_more}
 use Rattle.std.proofs.Math.ListN.{get_or-map}
 use Rattle.itip_items.specs.declared.item.Item.{Item}
-use Rattle.itip_view.specs.MostRows.{IsCountAmong}
+use Rattle.itip_view.specs.UidWithMostRows.{IsCountAmong}
 use Rattle.itip_view.specs.Rows.{row_limit}
 use Rattle.itip_view.specs.Wanting.{Wants}
 use Rattle.itip_view.specs.declared.row_count.RowCount.TheVariants.{TooMany}

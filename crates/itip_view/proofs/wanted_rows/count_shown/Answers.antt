@@ -2,7 +2,7 @@ use Rattle.std.proofs.Common.{List, ℕ, subst}
 use Rattle.std.specs.List.{filter}
 use Rattle.itip_state.proofs.Members.{if_ok_then}
 use Rattle.itip_state.specs.OfUid.{UidPart}
-use Rattle.itip_view.specs.MostRows.{HasRows}
+use Rattle.itip_view.specs.UidWithMostRows.{HasRows}
 use Rattle.itip_view.specs.RowsOfUid.{AreRowsOf}
 use Rattle.itip_view.specs.UnmadeRows.{AreWanted}
 use Rattle.itip_view.specs.Wanted.{wants}

@@ -1,5 +1,5 @@
 use Rattle.std.proofs.lemmas.Result.{err_from_is_err_and, IfErr-weaker}
-use Rattle.itip_desk.specs.Delta.{GivesBatch}
+use Rattle.itip_desk.specs.DeltaFormat.{GivesBatch}
 use Rattle.itip_message.specs.Message.{RefusesMessage}
 use Rattle.itip_state.proofs.Members.{if_ok_then}
 use Rattle.itip_world.specs.Looking.{HearsNow, HearsOctets}

@@ -4,7 +4,7 @@ use Rattle.itip_items.specs.declared.item.Item.{Item}
 use Rattle.itip_state.specs.Kept.{ArePartOf, IsItemsOf}
 use Rattle.itip_state.proofs.Members.{if_ok_then}
 use Rattle.itip_desk.specs.Desk.{Shown, CarriesAfter, IsDeltaOf}
-use Rattle.itip_desk.specs.Moves.{AreUpTo}
+use Rattle.itip_desk.specs.MovedSince.{AreUpTo}
 use Rattle.itip_desk.proofs.Ticking.{delta_is, nothing_since}
 use Rattle.itip_desk.proofs.desk.Desk.delta_since.Goals as goal
 

@@ -8,7 +8,7 @@ use Rattle.itip_state.proofs.News.{news_kept, news_move}
 use Rattle.itip_state.proofs.Nothing.{no_news, no_uids, no_view, not_ok}
 use Rattle.std.specs.Prelude.{cond, Some}
 use Rattle.itip_desk.specs.Desk.{Shown}
-use Rattle.itip_desk.specs.Moves.{is_listed, tick_at, HavePlaces, AreReady}
+use Rattle.itip_desk.specs.MovedSince.{is_listed, tick_at, HavePlaces, AreReady}
 use Rattle.itip_desk.proofs.Ticking.{carried_on, carry_step, marked_ticks, marked_up_to, nothing_carried}
 use Rattle.itip_desk.proofs.Steps.{moved_by_news, none_moved, none_in, some_moved, still_carry, one_more_step}
 use Rattle.itip_desk.proofs.FileTold.{told_on}

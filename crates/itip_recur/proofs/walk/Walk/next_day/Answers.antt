@@ -1,6 +1,6 @@
 use Rattle.std.proofs.Common.{◌≡◌, ◌⊎◌, ◌≤ℤ◌, ◌<ℤ◌, inl, inr, arith, FitsSigned, w32, to_z-of_z, subst, pos}
 use Rattle.jiff_core.proofs.SignedLemmas.{signed_arith}
-use Rattle.itip_recur.specs.Pattern.{IsSelected}
+use Rattle.itip_recur.specs.SelectedDays.{IsSelected}
 use Rattle.itip_recur.specs.Walk.{IsNoDay, IsUnitFrom}
 use Rattle.itip_recur.specs.Waits.{IsNone, IsFirst}
 use Rattle.itip_recur.proofs.Units.{unit_number-small}

@@ -2,7 +2,7 @@ use Rattle.std.proofs.Common.{◌≡◌, inl, inr, arith, pos, ◌-ℤ◌, FitsS
 use Rattle.std.proofs.lemmas.Bool.{cases_lt}
 use Rattle.jiff_core.proofs.SignedLemmas.{signed_arith}
 use Rattle.itip_moment.specs.Years.{IsDayNumber}
-use Rattle.itip_recur.specs.Pattern.{unit_number}
+use Rattle.itip_recur.specs.SelectedDays.{unit_number}
 use Rattle.itip_recur.proofs.Units.{unit_number-rises, unit_number-near}
 use Rattle.itip_recur.proofs.Walks.{IsNoDay-none}
 use Rattle.itip_recur.proofs.walk.Walk.next_unit.Goals as goal

@@ -1,7 +1,7 @@
 use Rattle.std.proofs.Common.{◌≡◌, List, ◌++◌, ap, sym, subst}
 use Rattle.itip_items.specs.declared.item.Item.{Item}
 use Rattle.itip_state.specs.Kept.{AreKept}
-use Rattle.itip_desk.specs.Heard.{heard}
+use Rattle.itip_desk.specs.HeardSteps.{heard}
 use Rattle.itip_running.specs.History.{Items, batches_of}
 use Rattle.itip_running.proofs.Seeing.{kept_through}
 use Rattle.itip_running.proofs.open_read.Look.kept.Goals as goal

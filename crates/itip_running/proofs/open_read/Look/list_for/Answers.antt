@@ -1,9 +1,9 @@
 use Rattle.std.proofs.Common.{rules}
 use Rattle.itip_state.proofs.Members.{if_ok_then}
-use Rattle.itip_desk.specs.Heard.{heard}
+use Rattle.itip_desk.specs.HeardSteps.{heard}
 use Rattle.itip_view.specs.Showing.{IsListTextFor}
 use Rattle.itip_view.proofs.SameRows.{text_for_of_same_rows, many_for_of_same_rows}
-use Rattle.itip_running.specs.Seen.{reader_seen}
+use Rattle.itip_running.specs.ContractViews.{reader_seen}
 use Rattle.itip_running.specs.Parts.{HasRowsFor}
 use Rattle.itip_running.proofs.open_read.Look.list_for.Goals as goal
 

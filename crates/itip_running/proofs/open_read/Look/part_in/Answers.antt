@@ -3,7 +3,7 @@ use Rattle.std.specs.Prelude.{IfOk}
 use Rattle.itip_items.specs.declared.item.Item.{Item}
 use Rattle.itip_state.specs.Kept.{AreKept}
 use Rattle.itip_state.proofs.Members.{if_ok_then}
-use Rattle.itip_desk.specs.Heard.{heard}
+use Rattle.itip_desk.specs.HeardSteps.{heard}
 use Rattle.itip_running.specs.History.{Items, batches_of}
 use Rattle.itip_running.specs.Parts.{HasRowsOf}
 use Rattle.itip_running.proofs.Seeing.{rows_of_items}

@@ -1,9 +1,9 @@
 use Rattle.std.proofs.Common.{rules}
 use Rattle.itip_state.proofs.Members.{if_ok_then}
-use Rattle.itip_desk.specs.Heard.{heard}
+use Rattle.itip_desk.specs.HeardSteps.{heard}
 use Rattle.itip_view.specs.Showing.{Shows, AreRowsWhere}
 use Rattle.itip_view.proofs.SameRows.{many_for_of_same_rows}
-use Rattle.itip_running.specs.Seen.{reader_seen}
+use Rattle.itip_running.specs.ContractViews.{reader_seen}
 use Rattle.itip_running.specs.Parts.{HasRowsFor}
 use Rattle.itip_running.proofs.Seeing.{rows_for_there}
 use Rattle.itip_running.proofs.open_read.Look.rows_for.Goals as goal

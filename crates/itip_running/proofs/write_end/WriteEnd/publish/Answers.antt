@@ -1,7 +1,7 @@
 use Rattle.std.proofs.Common.{rules, ◌≡◌, [], ◌∷◌, ◌++◌, ap, ◌∙◌}
 use Rattle.std.proofs.lemmas.Result.{on_ok_weaker, on_err_weaker}
 use Rattle.itip_running.specs.History.{batches_of}
-use Rattle.itip_running.specs.Seen.{writer_groups, writer_calls, writer_fresh}
+use Rattle.itip_running.specs.ContractViews.{writer_groups, writer_calls, writer_fresh}
 use Rattle.itip_running.specs.Pair.{published_groups}
 use Rattle.itip_running.proofs.Groups.{batches_push}
 use Rattle.itip_running.proofs.Publishing.{shown_call, refused_call}

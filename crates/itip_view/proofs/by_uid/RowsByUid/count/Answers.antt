@@ -1,7 +1,7 @@
 use Rattle.std.proofs.Common.{map}
 use Rattle.itip_state.proofs.Members.{if_ok_then}
 use Rattle.itip_view.specs.ByUid.{IsCountOf}
-use Rattle.itip_view.specs.MostRows.{IsCountAmong}
+use Rattle.itip_view.specs.UidWithMostRows.{IsCountAmong}
 use Rattle.itip_view.specs.Wanting.{Wants}
 use Rattle.itip_view.specs.declared.by_uid.RowsByUid.{RowsByUid}
 use Rattle.itip_view.proofs.Left.{count_left}

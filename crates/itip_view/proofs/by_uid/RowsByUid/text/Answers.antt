@@ -12,20 +12,21 @@ returns-clause-text c =
     let asked : RowsByUid = c.args.self.now in
     let uids : List (List ℕ) = map (λ uid. uid.now) c.left.result.now in
     if_ok_then (λ text. IsTextAmong (Wants asked.wanted) asked.state.now asked.window uids text.items)
-    (λ text. IsTextLeft asked text.items) c.text_by_uid.result
+    (λ text. IsTextLeft asked text.items) c.text_within_limit.result
     (λ text is. record {
       rows = is.rows;
       are_left = subst (λ (us : List (List ℕ)). AreRowsWhere (IsAmong us (Wants asked.wanted)) asked.state.now asked.window is.rows)
           c.left.ensures.uids is.are_rows;
       few = is.few;
       text_is = is.text_is;
-    }) c.text_by_uid.ensures.text
+    }) c.text_within_limit.ensures.text
 
 pub returns-clause-many : goal.returns-clause-many
 returns-clause-many c = λ refused.
     let asked : RowsByUid = c.args.self.now in
     subst (λ (us : List (List ℕ)). AreTooManyWhere (IsAmong us (Wants asked.wanted)) asked.state.now asked.window) c.left.ensures.uids
-    (c.text_by_uid.ensures.many refused)
+    (c.text_within_limit.ensures.many refused)
 
 pub returns-clause-succeeds : goal.returns-clause-succeeds
-returns-clause-succeeds c = λ none. c.text_by_uid.ensures.succeeds (no_view (λ uid. uid.now) c.left.result.now (c.left.ensures.uids ∙ none))
+returns-clause-succeeds c = λ none.
+    c.text_within_limit.ensures.succeeds (no_view (λ uid. uid.now) c.left.result.now (c.left.ensures.uids ∙ none))

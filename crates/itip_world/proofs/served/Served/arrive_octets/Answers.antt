@@ -1,5 +1,5 @@
 use Rattle.std.proofs.Common.{ap, sym, ◌∙◌, Some, arith}
-use Rattle.itip_desk.specs.Delta.{ReadsDelta, RefusesDelta}
+use Rattle.itip_desk.specs.DeltaFormat.{ReadsDelta, RefusesDelta}
 use Rattle.itip_desk.specs.Desk.{Shown}
 use Rattle.itip_script.specs.Stream.{whole}
 use Rattle.itip_world.specs.Serving.{arrive}

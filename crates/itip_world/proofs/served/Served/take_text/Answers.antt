@@ -1,5 +1,5 @@
 use Rattle.std.proofs.Common.{ap, sym, ◌∙◌, Some, arith}
-use Rattle.itip_desk.specs.Delta.{GivesBatch}
+use Rattle.itip_desk.specs.DeltaFormat.{GivesBatch}
 use Rattle.itip_desk.specs.Desk.{Shown}
 use Rattle.itip_message.specs.Message.{RefusesMessage}
 use Rattle.itip_script.specs.Stream.{whole}

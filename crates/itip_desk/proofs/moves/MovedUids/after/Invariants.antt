@@ -1,6 +1,0 @@
-use Rattle.std.proofs.Common.{map}
-use Rattle.itip_desk.proofs.Ticking.{FoundSoFar}
-use Rattle.itip_desk.proofs.moves.MovedUids.after.Given as goal
-
-abbrev pub invariant-loop-tick : goal.invariant-loop-tick
-invariant-loop-tick l = FoundSoFar l.self.carried l.since (map (λ u. u.now) l.uids.items) l.tick-iterator

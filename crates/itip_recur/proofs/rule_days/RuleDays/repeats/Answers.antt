@@ -1,5 +1,0 @@
-use Rattle.std.proofs.Common.{◌≡◌, ◌↔◌, IsTrue, true, false}
-use Rattle.itip_recur.specs.Members.{HasTimeOf}
-use Rattle.itip_recur.specs.RuleDays.{MayRepeat, IsLaterMember}
-use Rattle.itip_recur.proofs.AskedDays.{never, later_member, may_repeat}
-use Rattle.itip_recur.proofs.rule_days.RuleDays.repeats.Goals as goal

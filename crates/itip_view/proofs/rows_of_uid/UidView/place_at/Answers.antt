@@ -1,4 +1,0 @@
-use Rattle.itip_view.proofs.rows_of_uid.UidView.place_at.Goals as goal
-
-pub place_between-requires-clause-occurs : goal.place_between-requires-clause-occurs
-place_between-requires-clause-occurs c = c.requires.occurs c.in-None.ensures
