@@ -1,3 +1,4 @@
 pub mod Filtering
 pub mod Beginning
 pub mod Unread
+mod Fronts

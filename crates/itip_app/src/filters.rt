@@ -535,9 +535,7 @@ fn hear_only<R: AllocGlobal + Threads + Sync, I: io::Read + Drop, S: Watch>(
     watch: &mut S,
 ) -> Result<(), StreamFault> {
     let inbox = read_sources(rt, rt.alloc(), sources, None, threads, watch)?;
-    for refused in inbox.refusals.as_slice() {
-        watch.refused(refused);
-    }
+    watch.refused(0, &inbox.refusals);
     Ok(())
 }
 

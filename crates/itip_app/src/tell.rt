@@ -1,18 +1,21 @@
 //! What is said besides the output: help, what was refused, where and why, and how much has been read. What can't be written to
 //! standard error, or has no memory, is left out.
-ghost use Rattle.std.specs.Prelude.{◌≡◌, ℕ, List, Bool, true, false, Some, None, IfOk, OnOk, OnErr};
+ghost use Rattle.std.specs.Prelude.{◌≡◌, ◌++◌, ◌∷◌, [], ℕ, List, Bool, true, false, Some, None, IfOk, OnOk, OnErr, codes};
 ghost use Rattle.std.specs.String.{string_bytes};
 ghost use Rattle.itip_desk.specs.Refusals.{number_of_file};
 ghost use Rattle.itip_message.specs.RefusalNumbers.{number_of};
 ghost use Rattle.itip_words.specs.declared.no_call.NoCall.{NoCall};
 ghost use Rattle.itip_words.specs.declared.words.Call.{Call};
-ghost use Rattle.itip_app.specs.Said.{IsRefusedLine, asks_causes};
+ghost use Rattle.itip_streams.specs.Told.{place_of, refusal_at};
+ghost use Rattle.itip_streams.specs.Visible.{visible};
+ghost use Rattle.itip_streams.specs.declared.source_name.SourceName.{SourceName};
+ghost use Rattle.itip_app.specs.Said.{IsRefusedLine, asks_causes, front_of};
 
 use crate::filters::Named;
 use itip_desk::{FileRefusal, Refusal};
-use itip_inbox::RefusedMessage;
+use itip_inbox::{Refusals, RefusedMessage};
 use itip_message::MessageRefusal;
-use itip_streams::{SourceName, refused_line};
+use itip_streams::{SourceName, refused_line, visible_text};
 use itip_todo::PropertyName;
 use itip_view::MostRows;
 use itip_words::{Call, Filter, NoCall, most_line};
@@ -129,6 +132,9 @@ const NO_PROGRESS: Progress = Progress {
 // How many bytes are read before progress is shown again: a folder of many small files has no line for each.
 const SHARE: u64 = 1_048_576;
 
+// How many bytes standard error takes in one write. A write costs more than the lines in it.
+const WRITTEN_AT_ONCE: usize = 1_024;
+
 impl<'a, R: AllocGlobal + Eprint> Teller<'a, R> {
     /// `is_terminal` says whether standard error is a terminal.
     pub(crate) fn new(
@@ -172,8 +178,34 @@ impl<'a, R: AllocGlobal + Eprint> Teller<'a, R> {
         }
     }
 
-    fn line_of(&self, name: &SourceName, refused: &RefusedMessage) -> Result<String, AllocError>
-        ensures bare { self.now.causes.are_asked ≡ false → IfOk result (λ line.
+    /// Adds a line to those that aren't written yet, and writes these before if all are too long for one write. A line that has no
+    /// memory is left out.
+    fn collect(&self, lines: &mut String, line: Result<String, AllocError>) {
+        if let Ok(line) = line {
+            if lines.len().saturating_add(line.len()) >= WRITTEN_AT_ONCE {
+                self.write(lines);
+            }
+            if add_line(lines, line.as_str()).is_err() {
+                self.write(lines);
+                self.say(Ok(line));
+            }
+        }
+    }
+
+    /// Writes lines, and empties them.
+    fn write(&self, lines: &mut String) {
+        let _ = eprint!(self.rt; "{lines}");
+        lines.clear();
+    }
+
+    /// The line about a refused message of a source with this front.
+    fn line_of(
+        &self,
+        name: &SourceName,
+        front: &str,
+        refused: &RefusedMessage,
+    ) -> Result<String, AllocError>
+        ensures bare { self.now.causes.are_asked ≡ false → front.now ≡ visible (front_of name.now) → IfOk result (λ line.
             IsRefusedLine name.now refused.now None (string_bytes line)) }
         ensures caused { self.now.causes.are_asked ≡ true → IfOk result (λ line. (cause : List ℕ) ×
             IsRefusedLine name.now refused.now (Some cause) (string_bytes line)) }
@@ -182,11 +214,53 @@ impl<'a, R: AllocGlobal + Eprint> Teller<'a, R> {
         let refusal = Refusal::Message(refused.refusal);
         let number = refusal.number();
         if !self.causes.are_asked {
-            return refused_line(alloc, name, refused.message, number, None);
+            return bare_line(alloc, front, refused.message, number);
         }
         let why = refusal.to_string(alloc)?;
         refused_line(alloc, name, refused.message, number, Some(why.as_str()))
     }
+}
+
+/// What is shown of a source before the number of a message. It is made once for many lines, which then are only put together.
+fn shown_front(alloc: Global, name: &SourceName) -> Result<String, AllocError>
+    ensures { IfOk result (λ front. string_bytes front ≡ visible (front_of name.now)) }
+{
+    let front = front_of(alloc, name)?;
+    visible_text(alloc, front.as_str())
+}
+
+fn front_of(alloc: Global, name: &SourceName) -> Result<String, AllocError>
+    ensures { IfOk result (λ front. string_bytes front ≡ front_of name.now) }
+{
+    match name {
+        SourceName::StandardInput => String::from_str(alloc, "message "),
+        SourceName::File(name) => front_of_file(alloc, name.as_str()),
+        SourceName::Unreadable(name) => front_of_file(alloc, name.as_str()),
+    }
+}
+
+fn front_of_file(alloc: Global, name: &str) -> Result<String, AllocError>
+    ensures { IfOk result (λ front. string_bytes front ≡ name.now ++ codes " message ") }
+{
+    Ok(format!(in alloc; "{name} message ")?)
+}
+
+/// The line about a refused message, without its cause, of a source with this front.
+fn bare_line(alloc: Global, front: &str, message: u64, number: u32) -> Result<String, AllocError>
+    ensures { (name : SourceName) → front.now ≡ visible (front_of name) → IfOk result (λ line.
+        string_bytes line ≡ visible (refusal_at (place_of name message) number None)) }
+{
+    Ok(format!(in alloc; "{front}{message}: refused {number}")?)
+}
+
+/// Adds a line and its line break. If an allocation fails, nothing is added.
+fn add_line(lines: &mut String, line: &str) -> Result<(), AllocError>
+    ensures adds { OnOk result (string_bytes lines.new ≡ string_bytes lines.old ++ (line.now ++ 10 ∷ [])) }
+    ensures unchanged { OnErr result (string_bytes lines.new ≡ string_bytes lines.old) }
+{
+    lines.reserve(line.len() + 1)?;
+    lines.push_str(line)?;
+    lines.push('\n')
 }
 
 impl<'a, R: AllocGlobal + Eprint> itip_inbox::Watch for Teller<'a, R> {
@@ -201,11 +275,28 @@ impl<'a, R: AllocGlobal + Eprint> itip_inbox::Watch for Teller<'a, R> {
         }
     }
 
-    fn refused(&mut self, refused: &RefusedMessage) {
-        self.show_progress();
-        if let Some(name) = self.named.at(refused.source) {
-            self.say(self.line_of(name, refused));
+    fn refused(&mut self, before: usize, refusals: &Refusals) {
+        if refusals.is_empty() {
+            return;
         }
+        self.show_progress();
+        let alloc = self.rt.alloc();
+        let mut lines = String::new(alloc);
+        let mut place = 0;
+        let mut front = None;
+        for refused in refusals.iter() {
+            let source = before.saturating_add(refused.source);
+            if let Some(name) = self.named.at(source) {
+                if front.is_none() || place != source {
+                    place = source;
+                    front = shown_front(alloc, name).ok();
+                }
+                if let Some(front) = &front {
+                    self.collect(&mut lines, self.line_of(name, front.as_str(), &refused));
+                }
+            }
+        }
+        self.write(&mut lines);
     }
 
     fn too_many_rows(&mut self, most: &MostRows) {
@@ -270,12 +361,14 @@ impl<'a, R: AllocGlobal + Eprint> itip_inbox::Watch for Explainer<'a, R> {
 
     fn read(&mut self, _messages: u64, _octets: u64) {}
 
-    fn refused(&mut self, refused: &RefusedMessage) {
-        self.say(
-            "message",
-            refused.message,
-            Refusal::Message(refused.refusal),
-        );
+    fn refused(&mut self, _before: usize, refusals: &Refusals) {
+        for refused in refusals.iter() {
+            self.say(
+                "message",
+                refused.message,
+                Refusal::Message(refused.refusal),
+            );
+        }
     }
 
     fn too_many_rows(&mut self, _most: &MostRows) {}

@@ -16,7 +16,6 @@ use Rattle.itip_inbox.specs.Inbox.{Placed, placed_from, Hears}
 use Rattle.itip_inbox.specs.Streaming.{KeepsMessages, TellBeside, Tells, HasGot, waiting_of}
 use Rattle.itip_inbox.specs.declared.texts.Heard.{Heard}
 use Rattle.itip_inbox.specs.declared.waiting.Waiting.{Waiting}
-use Rattle.itip_message.specs.Parting.{StaysParted}
 use Rattle.itip_message.specs.Scanned.{messages_of}
 use Rattle.itip_inbox.proofs.Answered.{hears_none, hears_items, hears_refusal, hears_both, tells_none, tells_items, tells_refusal, tells_both}
 use Rattle.itip_inbox.proofs.Keeping.{news_both, keeps_more}
@@ -49,7 +48,7 @@ placed_on before source base at count xs ys same counted =
 -- ---- inboxes
 
 -- no message came yet
-pub keeps_none : (about : Option (List ℕ)) (inbox : OpenInbox) → inbox.state ≡ [] → inbox.refusals.items ≡ [] → inbox.told.items ≡ [] →
+pub keeps_none : (about : Option (List ℕ)) (inbox : OpenInbox) → inbox.state ≡ [] → inbox.refusals ≡ [] → inbox.told.items ≡ [] →
     KeepsMessages about [] inbox
 keeps_none about inbox empty unrefused untold = record {
   heard = [];
@@ -61,7 +60,7 @@ keeps_none about inbox empty unrefused untold = record {
 
 -- an inbox that has what another has
 pub keeps_same : (about : Option (List ℕ)) (messages : List Placed) (old new : OpenInbox) → new.state ≡ old.state →
-    new.refusals.items ≡ old.refusals.items → new.told.items ≡ old.told.items → KeepsMessages about messages old →
+    new.refusals ≡ old.refusals → new.told.items ≡ old.told.items → KeepsMessages about messages old →
     KeepsMessages about messages new
 keeps_same about messages old new state refusals told keeps = record {
   heard = keeps.heard;
@@ -73,16 +72,16 @@ keeps_same about messages old new state refusals told keeps = record {
 -- a message is noted as refused
 pub keeps_refusal : (about : Option (List ℕ)) (before : List Placed) (old new : OpenInbox) (text : List ℕ) (cause : MessageRefusal)
     (next : ℕ) → RefusesMessage text cause → new.state ≡ old.state → new.told.items ≡ old.told.items → next ≡ old.messages + 1 →
-    new.refusals.items ≡ old.refusals.items ++ (record { source = old.source; message = next; refusal = cause }) ∷ []
+    new.refusals ≡ old.refusals ++ (record { source = old.source; message = next; refusal = cause }) ∷ []
     → KeepsMessages about before old → KeepsMessages about (before ++ placed_from old.source (old.messages + 1) (text ∷ [])) new
 keeps_refusal about before old new text cause next refuses state told is noted keeps =
     let one : Placed = record { source = old.source; message = old.messages + 1; text = text } in
     record {
       heard = keeps.heard;
       hears = subst (λ (refusals : List RefusedMessage). Hears (before ++ one ∷ []) keeps.heard refusals)
-          (sym (noted ∙ ap (λ (n : ℕ). old.refusals.items ++
+          (sym (noted ∙ ap (λ (n : ℕ). old.refusals ++
           (record { source = old.source; message = n; refusal = cause }) ∷ []) is))
-          (hears_refusal before keeps.heard old.refusals.items keeps.hears one cause refuses);
+          (hears_refusal before keeps.heard old.refusals keeps.hears one cause refuses);
       tells = subst (λ (more : List ToldItem). AreTold about (before ++ one ∷ []) more) (sym told)
           (tells_refusal about before old.told.items keeps.tells one cause refuses);
       keeps = subst (λ (kept : List Item). AreKept kept keeps.heard) (sym state) keeps.keeps;
@@ -156,12 +155,12 @@ placed_one source first next texts text is =
 pub keeps_beside : (about : Option (List ℕ)) (before more : List Placed) (old new : OpenInbox) (news : List Item)
     (refusals : List RefusedMessage) (told : List ToldItem) → KeepsMessages about before old →
     TellBeside about old.state more news refusals told → AreKept new.state (old.state ++ news) →
-    new.refusals.items ≡ old.refusals.items ++ refusals → new.told.items ≡ old.told.items ++ told →
+    new.refusals ≡ old.refusals ++ refusals → new.told.items ≡ old.told.items ++ told →
     KeepsMessages about (before ++ more) new
 keeps_beside about before more old new news refusals told keeps beside kept noted followed = record {
   heard = keeps.heard ++ beside.items;
   hears = subst (λ (rs : List RefusedMessage). Hears (before ++ more) (keeps.heard ++ beside.items) rs) (sym noted)
-      (hears_both before more keeps.heard beside.items old.refusals.items refusals keeps.hears beside.hears);
+      (hears_both before more keeps.heard beside.items old.refusals refusals keeps.hears beside.hears);
   tells = subst (λ (ts : List ToldItem). AreTold about (before ++ more) ts) (sym followed)
       (tells_both about before more old.told.items told keeps.tells beside.tells);
   keeps = keeps_more old.state new.state keeps.heard beside.items news keeps.keeps beside.news_are kept;
@@ -223,24 +222,9 @@ behind_tell about kept source first count texts old new same news refusals told 
   count_is = same ∙ tells.count_is ∙ length_placed source first texts ∙ sym (length_placed source (first + count) texts);
 }
 
--- what two parts tell, cut apart, is what the whole tells
-pub parts_tell : (about : Option (List ℕ)) (kept : List Item) (source : ℕ) (whole front back : List ℕ) (ours all : Heard) →
-    StaysParted whole front back → Tells about kept (placed_from source 1 (messages_of front)) ours →
-    Tells about kept (placed_from source 1 (messages_of front) ++ placed_from source (1 + ours.count) (messages_of back)) all →
-    Tells about kept (placed_from source 1 (messages_of whole)) all
-parts_tell about kept source whole front back ours all parted one both =
-    let many : ours.count ≡ length (messages_of front) = one.count_is ∙ length_placed source 1 (messages_of front) in
-    let count : 1 + length (messages_of front) ≡ 1 + ours.count = omega (arith, many) in
-    let cut : messages_of whole ≡ messages_of front ++ messages_of back =
-    ap messages_of (sym (append-nil whole)) ∙ parted.messages [] ∙ ap (λ (t : List ℕ). messages_of front ++ messages_of t) (append-nil back)
-    in
-    subst (λ (ms : List Placed). Tells about kept ms all)
-    (sym (ap (placed_from source 1) cut ∙ placed_both source 1 (messages_of front) (messages_of back) ∙
-    ap (λ (n : ℕ). placed_from source 1 (messages_of front) ++ placed_from source n (messages_of back)) count)) both
-
 -- ---- inputs that wait
 
-pub got_none : (about : Option (List ℕ)) (inbox : OpenInbox) → inbox.state ≡ [] → inbox.refusals.items ≡ [] → inbox.told.items ≡ [] →
+pub got_none : (about : Option (List ℕ)) (inbox : OpenInbox) → inbox.state ≡ [] → inbox.refusals ≡ [] → inbox.told.items ≡ [] →
     inbox.waiting.items ≡ [] → HasGot about [] inbox
 got_none about inbox empty unrefused untold none = record {
   done = [];
@@ -249,7 +233,7 @@ got_none about inbox empty unrefused untold none = record {
 }
 
 pub got_same : (about : Option (List ℕ)) (messages : List Placed) (old new : OpenInbox) → new.state ≡ old.state →
-    new.refusals.items ≡ old.refusals.items → new.told.items ≡ old.told.items → new.waiting.items ≡ old.waiting.items →
+    new.refusals ≡ old.refusals → new.told.items ≡ old.told.items → new.waiting.items ≡ old.waiting.items →
     HasGot about messages old → HasGot about messages new
 got_same about messages old new state refusals told waiting got = record {
   done = got.done;
@@ -274,15 +258,9 @@ waiting_push (w ∷ waiting) one =
     sym (append_assoc (placed_from w.source 1 (messages_of w.octets.items)) (waiting_of waiting)
     (placed_from one.source 1 (messages_of one.octets.items)))
 
-pub waiting_both : (xs ys : List Waiting) → waiting_of (xs ++ ys) ≡ waiting_of xs ++ waiting_of ys
-waiting_both [] ys = refl
-waiting_both (x ∷ xs) ys =
-    ap (λ (ms : List Placed). placed_from x.source 1 (messages_of x.octets.items) ++ ms) (waiting_both xs ys) ∙
-    sym (append_assoc (placed_from x.source 1 (messages_of x.octets.items)) (waiting_of xs) (waiting_of ys))
-
 -- one input more waits
 pub got_waits : (about : Option (List ℕ)) (before : List Placed) (old new : OpenInbox) (one : Waiting) → new.state ≡ old.state →
-    new.refusals.items ≡ old.refusals.items → new.told.items ≡ old.told.items → new.waiting.items ≡ old.waiting.items ++ one ∷ [] →
+    new.refusals ≡ old.refusals → new.told.items ≡ old.told.items → new.waiting.items ≡ old.waiting.items ++ one ∷ [] →
     HasGot about before old → HasGot about (before ++ placed_from one.source 1 (messages_of one.octets.items)) new
 got_waits about before old new one state refusals told waiting got =
     let more : List Placed = placed_from one.source 1 (messages_of one.octets.items) in
@@ -297,7 +275,7 @@ got_waits about before old new one state refusals told waiting got =
 pub waiting_heard : (about : Option (List ℕ)) (messages : List Placed) (old now new : OpenInbox) (heard : Heard) →
     Tells about old.state (waiting_of old.waiting.items) heard → ((before more : List Placed) → KeepsMessages about before old →
     Tells about old.state more heard → KeepsMessages about (before ++ more) now) → new.state ≡ now.state →
-    new.refusals.items ≡ now.refusals.items → new.told.items ≡ now.told.items → HasGot about messages old →
+    new.refusals ≡ now.refusals → new.told.items ≡ now.told.items → HasGot about messages old →
     KeepsMessages about messages new
 waiting_heard about messages old now new heard tells takes state refusals told got =
     keeps_same about messages now new state refusals told

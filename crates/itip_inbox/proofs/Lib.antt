@@ -1,6 +1,8 @@
+mod Packing
 mod Answered
 mod Behind
 mod Hearing
+mod Ranges
 mod Sharding
 mod HeldParts
 mod Keeping
@@ -25,6 +27,7 @@ mod Sending
 mod Showing
 mod CsvText
 mod Pieces
+mod SourcePieces
 mod Numerals
 mod JsonText
 mod JsonArray

@@ -1,10 +1,11 @@
 -- What is kept in shards is what is kept of all.
-use Rattle.std.proofs.Common.{◌≡◌, ◌∙◌, ◌↔◌, ◌<◌, ◌≤◌, sym, ap, subst, refl, ℕ, zero, suc, List, [], ◌∷◌, ◌++◌, length, slice_index_or}
+use Rattle.std.proofs.Common.{◌≡◌, ◌∙◌, ◌↔◌, ◌+◌, ◌<◌, ◌≤◌, sym, ap, subst, refl, ℕ, zero, suc, List, [], ◌∷◌, ◌++◌, length, slice_index_or}
 use Rattle.std.proofs.Common.{get_or, inl, inr, ◌||◌, arith, Bool, true, false, append_assoc, append-nil, nat_eq}
 use Rattle.std.proofs.Common.{Result, Ok, Err, take, drop, take_all}
-use Rattle.std.proofs.lemmas.List.{drop_all}
+use Rattle.std.proofs.lemmas.List.{drop_all, take_more}
 use Rattle.std.specs.Prelude.{OnOk, is_err}
-use Rattle.std.specs.List.{Contains, filter, list_any}
+use Rattle.std.specs.Global.{Vec}
+use Rattle.std.specs.List.{Contains, HoldsAt, filter, list_any}
 use Rattle.std.proofs.lemmas.List.Elements.{Contains-append_cases, Contains-append_left, Contains-append_right}
 use Rattle.std.proofs.lemmas.Nat.{mod_below}
 use Rattle.std.proofs.lemmas.Bool.Decides.{Decides-eqb}
@@ -13,15 +14,18 @@ use Rattle.itip_items.specs.KeyParts.{uid_of}
 use Rattle.itip_items.specs.declared.item.Item.{Item}
 use Rattle.itip_items.specs.declared.key.Key.{Key}
 use Rattle.itip_items.specs.declared.key.Key.TheVariants.{Series}
-use Rattle.itip_state.specs.Kept.{IsBest, IsKept, AreKept, ArePart, IsItemsOf}
+use Rattle.itip_state.specs.Kept.{IsBest, IsKept, AreKept, ArePart, IsItemsOf, SameItems}
 use Rattle.itip_state.specs.Told.{IsOutdone, AreNews}
 use Rattle.itip_state.proofs.Keeping.{kept_in_part, kept_beside, are_kept_by, are_kept_same, same_swapped}
 use Rattle.itip_state.proofs.Members.{none_in, cons_first, cons_cases}
 use Rattle.itip_view.proofs.Showing.{in_filter, passes, into_filter}
+use Rattle.itip_desk.specs.Octets.{AscendOctets}
 use Rattle.itip_inbox.specs.Following.{is_about}
+use Rattle.itip_inbox.specs.Ranges.{items_in}
 use Rattle.itip_inbox.specs.ShardOf.{shard_of, of_shard}
 use Rattle.itip_inbox.specs.Shards.{kept_in, AreSharded, HearsShard}
 use Rattle.itip_inbox.specs.declared.shard.Shard.{Shard}
+use Rattle.itip_inbox.proofs.Ranges.{items_more}
 
 -- ---- sets with the same items of a UID
 
@@ -94,6 +98,10 @@ on_no_err (Ok x) none holds = holds
 on_no_err (Err x) none holds = absurd (cc)
 
 -- ---- the items of shards
+
+some_shard : (shards : List Shard) → zero < length shards → Shard
+some_shard [] some = absurd (omega (arith, some))
+some_shard (s ∷ ss) some = s
 
 -- an item of one shard is among those of all
 pub of_all : (shards : List Shard) (n : ℕ) (d : Shard) (i : Item) → n < length shards → Contains (slice_index_or shards n d).state i →
@@ -200,10 +208,6 @@ module _ (olds news : List Shard) (items : List Item) (are : AreSharded olds) (m
   pub shards_hear : ((n : ℕ) (d : Shard) → n < length olds → (slice_index_or news n d).is_refused ≡ false) →
       AreKept (kept_in news) (kept_in olds ++ items)
   shards_hear heard i = shards_keep (some_shard olds are.some) (λ n. heard n (some_shard olds are.some)) i
-    where
-      some_shard : (shards : List Shard) → zero < length shards → Shard
-      some_shard [] some = absurd (omega (arith, some))
-      some_shard (s ∷ ss) some = s
 
 -- ---- shards side by side
 
@@ -211,29 +215,36 @@ pub kept_both : (xs ys : List Shard) → kept_in (xs ++ ys) ≡ kept_in xs ++ ke
 kept_both [] ys = refl
 kept_both (x ∷ xs) ys = ap (λ (t : List Item). x.state ++ t) (kept_both xs ys) ∙ sym (append_assoc x.state (kept_in xs) (kept_in ys))
 
--- the items of two parts of a list of shards, sorted by canonical bytes, are those of the list
-pub items_both : (all front back : List Shard) (first second items : List Item) → all ≡ front ++ back → IsItemsOf first (kept_in front) →
-    IsItemsOf second (kept_in back) → IsItemsOf items (first ++ second) → IsItemsOf items (kept_in all)
-items_both all front back first second items cut one two both = record {
-  ascend = both.ascend;
-  same = λ i.
-      let whole : kept_in all ≡ kept_in front ++ kept_in back = ap kept_in cut ∙ kept_both front back in (
-        λ h. subst (λ (t : List Item). Contains t i) (sym whole) (elim (Contains-append_cases first second i ((both.same i).0 h)) [
-          | inl left ↦ Contains-append_left (kept_in front) (kept_in back) i ((one.same i).0 left)
-          | inr right ↦ Contains-append_right (kept_in front) (kept_in back) i ((two.same i).0 right)
-        ]),
-        λ h. (both.same i).1 (elim (Contains-append_cases (kept_in front) (kept_in back) i (subst (λ (t : List Item). Contains t i) whole h)) [
-          | inl left ↦ Contains-append_left first second i ((one.same i).1 left)
-          | inr right ↦ Contains-append_right first second i ((two.same i).1 right)
-        ]),
-      );
-}
+-- two sets beside two with the same items
+same_beside : (xs ys us vs : List Item) → SameItems xs us → SameItems ys vs → SameItems (xs ++ ys) (us ++ vs)
+same_beside xs ys us vs one two i = (
+  λ h. elim (Contains-append_cases xs ys i h) [
+    | inl left ↦ Contains-append_left us vs i ((one i).0 left)
+    | inr right ↦ Contains-append_right us vs i ((two i).0 right)
+  ],
+  λ h. elim (Contains-append_cases us vs i h) [
+    | inl left ↦ Contains-append_left xs ys i ((one i).1 left)
+    | inr right ↦ Contains-append_right xs ys i ((two i).1 right)
+  ],
+)
 
--- of one shard alone
-pub only_one : (shards : List Shard) (d : Shard) → length shards ≡ 1 → kept_in shards ≡ (get_or shards 0 d).state
-only_one [] d long = absurd (omega (arith, long))
-only_one (s ∷ []) d long = append-nil s.state
-only_one (s ∷ (t ∷ ss)) d long = absurd (omega (arith, long))
+module _ (shards : List Shard) (list : Vec Item) (n : ℕ) (below : n < length shards)
+    (are : HoldsAt (λ (shard : Shard). IsItemsOf list.items shard.state) shards n) where
+  abbrev shard : Shard
+  shard = get_or shards n (some_shard shards (omega (arith, below)))
+
+  -- the list of a shard ascends
+  pub sorted_ascends : AscendOctets list.items
+  sorted_ascends = (are shard).ascend
+
+  -- the list of one shard more
+  pub sorted_more : (lists : List (Vec Item)) → SameItems (items_in lists) (kept_in (take n shards)) →
+      SameItems (items_in (lists ++ list ∷ [])) (kept_in (take (n + 1) shards))
+  sorted_more lists same =
+      let d : Shard = some_shard shards (omega (arith, below)) in
+      let whole : kept_in (take (n + 1) shards) ≡ kept_in (take n shards) ++ shard.state = ap kept_in (take_more shards n d below) ∙
+      kept_both (take n shards) (shard ∷ []) ∙ ap (λ (t : List Item). kept_in (take n shards) ++ t) (append-nil shard.state) in
+      rw (items_more lists list, whole) (same_beside (items_in lists) list.items (kept_in (take n shards)) shard.state same (are d).same)
 
 -- nothing is kept of nothing
 pub are_none : (state all : List Item) → state ≡ [] → all ≡ [] → AreKept state all

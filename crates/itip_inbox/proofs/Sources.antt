@@ -110,7 +110,7 @@ module _ {R : Type 0} (remaining : R → Option (List ℕ)) (about : Option (Lis
       kept : KeepsMessages about (placed_of 0 so_far.messages) now
       kept = all (placed_of 0 so_far.messages) so_far.got
 
-      pub turn_ends : Holds inputs now.state now.refusals.items
+      pub turn_ends : Holds inputs now.state now.refusals
       turn_ends = record {
         heard = kept.heard;
         inbox = record { messages = so_far.messages; cut = all_cut; hears = kept.hears };
@@ -143,7 +143,7 @@ heard_closed about kept whole refusals same told followed has all refusals_are t
 
 -- messages that were heard are some
 pub some_heard : (about : Option (List ℕ)) (messages : List Placed) (inbox : OpenInbox) → KeepsMessages about messages inbox →
-    HasHeard about inbox.state inbox.refusals.items inbox.told.items
+    HasHeard about inbox.state inbox.refusals inbox.told.items
 some_heard about messages inbox keeps = record {
   messages = messages;
   heard = keeps.heard;

@@ -2,6 +2,8 @@ pub use Rattle.itip_message.specs.Cutting
 pub use Rattle.itip_desk.specs.DeltaFormat
 pub use Rattle.itip_desk.specs.Refusals
 pub mod Inbox
+pub mod Leb128
+pub mod PackedRefusals
 pub mod Compaction
 pub mod Gaps
 pub mod News
@@ -19,4 +21,6 @@ pub mod Shown
 pub mod Placing
 pub mod ShardOf
 pub mod Shards
+pub mod Ranges
 pub mod Streaming
+pub mod Pieces

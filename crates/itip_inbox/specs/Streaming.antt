@@ -71,7 +71,7 @@ StaysCutInto bytes texts left = (more : List ℕ) → messages_of (bytes ++ more
 -- an inbox has what is kept of the messages that came, the refusals, and what they tell of the followed UID
 pub record KeepsMessages (about : Option (List ℕ)) (messages : List Placed) (inbox : OpenInbox) : Type 0 where
   pub heard : List Item
-  pub hears : Hears messages heard inbox.refusals.items
+  pub hears : Hears messages heard inbox.refusals
   pub tells : AreTold about messages inbox.told.items
   pub keeps : AreKept inbox.state heard
 

@@ -38,7 +38,7 @@ pub fn compact<R: Read + Drop, W: Write, S: Watch>(
     let inbox = gather_shards(rt, alloc, sources, threads, watch)?;
     let items = inbox.state.by_octets(rt)?;
     write_items(alloc, items.as_slice(), writer)?;
-    drop(items);
+    inbox.state.let_go_of(rt, items);
     let is_refused = inbox.has_refusals();
     inbox.let_go(rt);
     Ok(is_refused)

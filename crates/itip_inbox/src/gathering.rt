@@ -6,7 +6,6 @@ ghost use Rattle.itip_inbox.specs.Inbox.{AreInputs, Holds};
 
 use crate::inbox::Inbox;
 use crate::open_inbox::OpenInbox;
-use crate::refused::RefusedMessage;
 use crate::source_reading::{Progress, hear_sources, read_sources};
 use crate::watch::Watch;
 use itip_streams::StreamFault;
@@ -15,7 +14,7 @@ use std::alloc::Global;
 use std::io::Read;
 use std::thread::Threads;
 
-/// Reads sources as [`read_sources`] does, and once all are read tells the watch of each refused message.
+/// Reads sources as [`read_sources`] does, and once all are read tells the watch of the refused messages.
 pub(crate) fn gather<R: Read + Drop, S: Watch>(
     rt: &(impl Threads + Sync),
     alloc: Global,
@@ -25,14 +24,14 @@ pub(crate) fn gather<R: Read + Drop, S: Watch>(
     watch: &mut S,
 ) -> Result<Inbox, StreamFault>
     ensures holds { IfOk result (λ inbox. (inputs : List (List ℕ)) → AreInputs R.remaining sources.items inputs →
-        Holds inputs inbox.state inbox.refusals.items) }
+        Holds inputs inbox.state inbox.refusals) }
     ensures told { IfOk result (λ inbox. (inputs : List (List ℕ)) → AreInputs R.remaining sources.items inputs →
         TellAbout (option_copied about.entry) inputs inbox.told.items) }
     ensures heard { IfOk result (λ inbox.
-        HasHeard (option_copied about.entry) inbox.state inbox.refusals.items inbox.told.items) }
+        HasHeard (option_copied about.entry) inbox.state inbox.refusals inbox.told.items) }
 {
     let inbox = read_sources(rt, alloc, sources, about, threads, watch)?;
-    tell(0, inbox.refusals.as_slice(), watch);
+    watch.refused(0, &inbox.refusals);
     Ok(inbox)
 }
 
@@ -45,22 +44,11 @@ pub(crate) fn gather_shards<R: Read + Drop, S: Watch>(
     watch: &mut S,
 ) -> Result<OpenInbox, StreamFault>
     ensures holds { IfOk result (λ inbox. (inputs : List (List ℕ)) → AreInputs R.remaining sources.items inputs →
-        Holds inputs inbox.state inbox.refusals.items) }
+        Holds inputs inbox.state inbox.refusals) }
     ensures fault { IfErr result (λ fault. fault ≢ StreamFault.Write) }
 {
     let mut progress = Progress::none();
     let inbox = hear_sources(rt, alloc, sources, None, threads, &mut progress, watch)?;
-    tell(0, inbox.refusals.as_slice(), watch);
+    watch.refused(0, &inbox.refusals);
     Ok(inbox)
-}
-
-/// Tells the watch of each refused message of sources that come after `before` others.
-pub(crate) fn tell<S: Watch>(before: usize, refusals: &[RefusedMessage], watch: &mut S) {
-    for refused in refusals {
-        watch.refused(&RefusedMessage {
-            source: before.saturating_add(refused.source),
-            message: refused.message,
-            refusal: refused.refusal,
-        });
-    }
 }

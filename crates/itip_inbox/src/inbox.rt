@@ -2,7 +2,7 @@
 ghost use Rattle.std.specs.Prelude.{◌≡◌};
 ghost use Rattle.itip_inbox.specs.Inbox.{is_some_refused};
 
-use crate::refused::RefusedMessage;
+use crate::refusals::Refusals;
 use itip_explain::ToldItem;
 use itip_state::State;
 
@@ -12,7 +12,7 @@ pub struct Inbox {
     /// What is kept of the messages.
     pub state: State,
     /// The refused messages, in the order of the inputs and of their messages.
-    pub refusals: Vec<RefusedMessage>,
+    pub refusals: Refusals,
     /// The items of the followed UID, in the order of the inputs, of their messages and of `read_message`, each as often as a
     /// message tells it; none if no UID is followed.
     pub told: Vec<ToldItem>,
@@ -23,7 +23,7 @@ pub struct Inbox {
 impl Inbox {
     /// Whether a message was refused.
     pub(crate) fn has_refusals(&self) -> bool
-        ensures { result ≡ is_some_refused self.now.refusals.items }
+        ensures { result ≡ is_some_refused self.now.refusals }
     {
         !self.refusals.is_empty()
     }

@@ -8,7 +8,6 @@ ghost use Rattle.itip_inbox.specs.Inbox.{AreInputs};
 ghost use Rattle.itip_inbox.specs.News.{AreLacking, IsNews};
 
 use crate::compaction::write_items;
-use crate::gathering::tell;
 use crate::source_reading::{Progress, read_more};
 use crate::watch::Watch;
 use itip_state::{SharedItem, State, by_octets};
@@ -44,8 +43,8 @@ pub fn news<R: Read + Drop, W: Write, S: Watch>(
     let mut progress = Progress::none();
     let known = read_more(rt, alloc, than, None, threads, &mut progress, watch)?;
     let inbox = read_more(rt, alloc, sources, None, threads, &mut progress, watch)?;
-    tell(0, known.refusals.as_slice(), watch);
-    tell(known.source, inbox.refusals.as_slice(), watch);
+    watch.refused(0, &known.refusals);
+    watch.refused(known.source, &inbox.refusals);
     let items = lacking(alloc, &known.state, &inbox.state)?;
     write_items(alloc, items.as_slice(), writer)?;
     let is_refused = known.has_refusals();

@@ -9,10 +9,13 @@ ghost use Rattle.itip_inbox.specs.Streaming.{HasGot, KeepsMessages, Tells};
 
 use crate::counts::count_more;
 use crate::inbox::Inbox;
+use crate::read_pieces::read_share;
+use crate::refusals::Refusals;
 use crate::refused::RefusedMessage;
 use crate::shards::Shards;
 use crate::shown::TOO_LONG;
-use crate::texts::{Heard, LEAST, read_share, read_texts};
+use crate::source_pieces::worth;
+use crate::texts::{Heard, read_texts};
 use crate::waiting::{Waiting, read_waiting};
 use itip_explain::ToldItem;
 use itip_message::MessageRefusal;
@@ -27,7 +30,7 @@ pub(crate) struct OpenInbox {
     /// What is kept of the messages that were heard.
     pub(crate) state: Shards,
     /// The refused messages, in the order of the inputs and of their messages.
-    pub(crate) refusals: Vec<RefusedMessage>,
+    pub(crate) refusals: Refusals,
     /// The items of the followed UID, in the order of the inputs, of their messages and of `read_message`, each as often as a
     /// message tells it; none if no UID is followed.
     pub(crate) told: Vec<ToldItem>,
@@ -51,7 +54,7 @@ impl OpenInbox {
     {
         Ok(OpenInbox {
             state: Shards::empty(alloc, threads)?,
-            refusals: Vec::new(alloc),
+            refusals: Refusals::none(alloc),
             told: Vec::new(alloc),
             source: 0,
             messages: 0,
@@ -63,7 +66,7 @@ impl OpenInbox {
 
     /// Whether a message was refused.
     pub(crate) fn has_refusals(&self) -> bool
-        ensures { result ≡ is_some_refused self.now.refusals.items }
+        ensures { result ≡ is_some_refused self.now.refusals }
     {
         !self.refusals.is_empty()
     }
@@ -77,7 +80,7 @@ impl OpenInbox {
     /// Returns all that it has, once no more messages come and none wait.
     pub(crate) fn close(self) -> Result<Inbox, AllocError>
         ensures state { IfOk result (λ inbox. AreKept inbox.state self.state) }
-        ensures refusals { IfOk result (λ inbox. inbox.refusals.items ≡ self.refusals.items) }
+        ensures refusals { IfOk result (λ inbox. inbox.refusals ≡ self.refusals) }
         ensures told { IfOk result (λ inbox. inbox.told.items ≡ self.told.items) }
         ensures source { IfOk result (λ inbox. inbox.source ≡ self.source) }
     {
@@ -109,7 +112,7 @@ impl OpenInbox {
         ensures source { OnOk result (self.new.source ≡ self.old.source + 1) }
         ensures messages { OnOk result (self.new.messages ≡ 0) }
         ensures state { OnOk result (self.new.state ≡ self.old.state) }
-        ensures refusals { OnOk result (self.new.refusals.items ≡ self.old.refusals.items) }
+        ensures refusals { OnOk result (self.new.refusals ≡ self.old.refusals) }
         ensures told { OnOk result (self.new.told.items ≡ self.old.told.items) }
         ensures waiting { OnOk result (self.new.waiting.items ≡ self.old.waiting.items) }
         ensures unchanged { OnErr result (self.new ≡ self.old) }
@@ -157,8 +160,9 @@ impl OpenInbox {
         ensures fault { IfErr result (λ fault. fault ≢ StreamFault.Write) }
     {
         let waiting = self.waiting.as_slice();
-        let threads = threads.min(self.octets / LEAST);
-        let heard = read_waiting(rt, alloc, &self.state, about, waiting, threads)?;
+        let octets = self.octets;
+        let threads = worth(octets, threads);
+        let heard = read_waiting(rt, alloc, &self.state, about, waiting, octets, threads)?;
         self.take(rt, heard)?;
         self.waiting.clear();
         self.octets = 0;
@@ -272,13 +276,13 @@ impl OpenInbox {
         let Heard {
             count,
             news,
-            mut refusals,
+            refusals,
             mut told,
         } = heard;
         self.heard = self.heard.saturating_add(count);
         self.state.hear(rt, news.as_slice())?;
         self.state.let_go_of(rt, news);
-        self.refusals.append(&mut refusals)?;
+        self.refusals.push_all(refusals.as_slice())?;
         self.told.append(&mut told)?;
         Ok(())
     }

@@ -66,7 +66,7 @@ fn write_message<W: Write>(
     writer: &mut W,
 ) -> Result<Sent, StreamFault>
     ensures all { OnOk result (Appends (W.contents writer.old) (W.contents writer.new) message.octets.items) }
-    ensures sent { IfOk result (λ sent. sent ≡ Sent.Done (is_some_refused inbox.now.refusals.items) message.lacking) }
+    ensures sent { IfOk result (λ sent. sent ≡ Sent.Done (is_some_refused inbox.now.refusals) message.lacking) }
     ensures front { OnErr result (AppendsFront (W.contents writer.old) (W.contents writer.new) message.octets.items) }
     ensures unread { IsErrOf result StreamFault.Read → Keeps (W.contents writer.old) (W.contents writer.new) }
 {

@@ -4,7 +4,8 @@ ghost use Rattle.itip_items.specs.KeyParts.{uid_of};
 ghost use Rattle.itip_state.specs.Kept.{AreKept};
 ghost use Rattle.itip_inbox.specs.ShardOf.{AreOfShard, number_of, of_shard, shard_of};
 
-use itip_state::{SharedItem, State};
+use crate::numbered::Numbered;
+use itip_state::State;
 use itip_todo::Uid;
 use std::alloc::{AllocError, Global};
 
@@ -28,7 +29,7 @@ impl Shard {
     }
 
     /// Hears the items whose UIDs are of shard `number` of `count`.
-    pub(crate) fn hear(&mut self, number: usize, count: usize, items: &[SharedItem])
+    pub(crate) fn hear(&mut self, number: usize, count: usize, items: &[Numbered])
         requires { 0 < count }
         ensures hears { self.new.is_refused ≡ false → AreKept self.new.state (self.old.state ++ of_shard count number items.now) }
         ensures stays { AreOfShard count number self.old.state → AreOfShard count number self.new.state }
@@ -43,7 +44,7 @@ fn hear_at(
     state: &mut State,
     number: usize,
     count: usize,
-    items: &[SharedItem],
+    items: &[Numbered],
 ) -> Result<(), AllocError>
     requires { 0 < count }
     ensures hears { OnOk result (AreKept state.new (state.old ++ of_shard count number items.now)) }
@@ -52,18 +53,18 @@ fn hear_at(
     state.lawful();
     for item in items {
         if is_of(item, number, count) {
-            state.hear(&[item])?;
+            state.hear(&[item.item()])?;
         }
     }
     Ok(())
 }
 
 /// Whether the UID of an item is of shard `number` of `count`.
-fn is_of(item: &SharedItem, number: usize, count: usize) -> bool
+fn is_of(item: &Numbered, number: usize, count: usize) -> bool
     requires { 0 < count }
     ensures { result ≡ nat_eq (shard_of count (uid_of item.now.key)) number }
 {
-    shard_of(item.key.uid(), count) == number
+    item.shard(count) == number
 }
 
 /// The number of the shard of a UID, if there are `count` shards.
@@ -79,7 +80,7 @@ pub(crate) fn shard_of(uid: &Uid, count: usize) -> usize
 }
 
 /// A number made from some bytes, below 2^32.
-fn number_of(octets: &[u8]) -> u64
+pub(crate) fn number_of(octets: &[u8]) -> u64
     ensures number { result ≡ number_of octets.now }
     ensures small { result < 4294967296 }
 {

@@ -1,17 +1,19 @@
 //! What is kept, split into shards by UID. What is kept of a UID depends on the items of that UID alone, so each shard hears on a thread
 //! of its own.
-ghost use Rattle.std.specs.Prelude.{◌≡◌, ◌↔◌, ◌<◌, ◌++◌, [], length, map, IfOk, OnOk, IfErr, IsTrue};
+ghost use Rattle.std.specs.Prelude.{◌≡◌, ◌↔◌, ◌<◌, ◌++◌, [], HoldsAt, length, map, IfOk, OnOk, IfErr, IsTrue};
 ghost use Rattle.std.specs.List.{list_any};
-ghost use Rattle.std.specs.Thread.{IsSync};
-ghost use Rattle.itip_state.specs.Kept.{AreKept, IsItemsOf};
+ghost use Rattle.itip_state.specs.Kept.{AreKept, IsItemsOf, SameItems};
 ghost use Rattle.itip_state.specs.Told.{AreNews, IsOutdone};
+ghost use Rattle.itip_inbox.specs.Ranges.{EachAscends, items_in};
 ghost use Rattle.itip_inbox.specs.Shards.{kept_in, HearsShard};
 
+use crate::merged_ranges::merged;
+use crate::numbered::Numbered;
 use crate::shard::{Shard, shard_of};
-use itip_state::{SharedItem, State, by_octets};
+use itip_state::{SharedItem, State};
 use std::alloc::{AllocError, Global};
 use std::marker::Model;
-use std::thread::{Threads, join};
+use std::thread::Threads;
 use std::{slice, thread};
 
 // The fewest items that are worth a thread.
@@ -85,7 +87,7 @@ impl Shards {
     pub(crate) fn hear<R: Threads + Sync>(
         &mut self,
         rt: &R,
-        items: &[SharedItem],
+        items: &[Numbered],
     ) -> Result<(), AllocError>
         ensures { OnOk result (AreKept self.new (self.old ++ items.now)) }
     {
@@ -102,19 +104,22 @@ impl Shards {
         Ok(())
     }
 
-    /// The items, sorted by canonical bytes, each once. Each shard is sorted on a thread of its own.
+    /// The items, sorted by canonical bytes, each once. Each shard is sorted on a thread of its own; then the results are merged on as
+    /// many threads as there are shards.
     pub(crate) fn by_octets<R: Threads + Sync>(&self, rt: &R) -> Result<Vec<SharedItem>, AllocError>
         ensures { IfOk result (λ items. IsItemsOf items.items self.now) }
     {
-        sorted(rt, self.shards.as_slice())
+        let alloc = *self.shards.allocator();
+        let lists = sorted_each(rt, alloc, self.shards.as_slice())?;
+        merged(rt, lists, self.shards.len())
     }
 
-    /// Drops items that were heard, many of them on up to as many threads as there are shards.
-    pub(crate) fn let_go_of<R: Threads + Sync>(&self, rt: &R, items: Vec<SharedItem>) {
+    /// Drops items, many of them on up to as many threads as there are shards.
+    pub(crate) fn let_go_of<R: Threads + Sync, T: Drop + Send>(&self, rt: &R, items: Vec<T>) {
         let count = (items.len() / LEAST).min(self.shards.len());
         if count > 1 {
             if let Ok(parts) = in_parts(items, count) {
-                let _ = thread::map_vec(rt, parts, &|part: Vec<SharedItem>| drop(part));
+                let _ = thread::map_vec(rt, parts, &|part: Vec<T>| drop(part));
             }
         }
     }
@@ -145,7 +150,7 @@ impl Shards {
 }
 
 /// Splits items into at most `count` lists of about the same length.
-fn in_parts(items: Vec<SharedItem>, count: usize) -> Result<Vec<Vec<SharedItem>>, AllocError>
+fn in_parts<T: Drop>(items: Vec<T>, count: usize) -> Result<Vec<Vec<T>>, AllocError>
     requires { 0 < count }
 {
     let mut parts = Vec::new(*items.allocator());
@@ -168,28 +173,23 @@ fn is_one_refused(shards: &[Shard]) -> bool
     shards.iter().any(|shard| shard.is_refused)
 }
 
-/// The items of some shards, sorted by canonical bytes, each once. Each shard is sorted on a thread of its own, and the results are
-/// merged in pairs.
-#[cycle(sorts)]
-fn sorted<R: Threads + Sync>(rt: &R, shards: &[Shard]) -> Result<Vec<SharedItem>, AllocError>
-    requires { 0 < length shards.now }
-    ensures { IfOk result (λ items. IsItemsOf items.items (kept_in shards.now)) }
+/// The items of each shard, sorted by canonical bytes, each once. Each shard is sorted on a thread of its own.
+fn sorted_each<R: Threads + Sync>(
+    rt: &R,
+    alloc: Global,
+    shards: &[Shard],
+) -> Result<Vec<Vec<SharedItem>>, AllocError>
+    ensures ascend { IfOk result (λ lists. EachAscends lists.items) }
+    ensures same { IfOk result (λ lists. SameItems (items_in lists.items) (kept_in shards.now)) }
 {
-    if shards.len() == 1 {
-        return shards[0].state.shared_items();
+    let one = move |number: usize| -> Result<Vec<SharedItem>, AllocError>
+        requires { number < length shards.now }
+        ensures { IfOk result (λ items. HoldsAt (λ shard. IsItemsOf items.items shard.state) shards.entry.now number) }
+    { shards[number].state.shared_items() };
+    let sorted = thread::map_indices(rt, alloc, shards.len(), &one)?;
+    let mut lists = Vec::with_capacity(alloc, sorted.len())?;
+    for list in sorted {
+        lists.push(list?)?;
     }
-    let (front, back) = shards.split_at(shards.len() / 2);
-    let left = move || -> Result<Vec<SharedItem>, AllocError>
-        requires { IsSync R.row × (0 < length front.now) }
-        ensures { IfOk result (λ items. IsItemsOf items.items (kept_in front.entry.now)) }
-    { sorted(rt, front) };
-    let right = move || -> Result<Vec<SharedItem>, AllocError>
-        requires { IsSync R.row × (0 < length back.now) }
-        ensures { IfOk result (λ items. IsItemsOf items.items (kept_in back.entry.now)) }
-    { sorted(rt, back) };
-    let (first, second) = join(rt, left, right);
-    let mut items = first?;
-    let mut others = second?;
-    items.append(&mut others)?;
-    by_octets(items)
+    Ok(lists)
 }

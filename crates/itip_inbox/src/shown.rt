@@ -5,8 +5,9 @@ ghost use Rattle.itip_message.specs.RefusalNumbers.{number_of};
 ghost use Rattle.itip_desk.specs.Refusals.{refused_text};
 ghost use Rattle.itip_streams.specs.Once.{FailsReading, ReadsWell};
 ghost use Rattle.itip_streams.specs.Written.{AppendsFront, WritesOutput};
-ghost use Rattle.itip_inbox.specs.Shown.{items_text, IsShown, IsShownAs};
+ghost use Rattle.itip_inbox.specs.Shown.{items_text, refused_alone, IsShown, IsShownAs};
 
+use crate::refusals::Refusals;
 use crate::refused::{RefusedMessage, refusal_text};
 use crate::watch::Watch;
 use itip_desk::{Batch, Refusal, read_batch, write_delta};
@@ -47,14 +48,9 @@ pub fn check<R: Read + ReadOnce, W: Write, S: Watch>(
     ensures failed { IsErrOf result StreamFault.Read → FailsReading R.reads reader.old reader.new }
 {
     let shown = read_shown(alloc, reader)?;
+    let refusals = refused_alone(alloc, shown.refusal)?;
     write_output(writer, shown.text.as_slice())?;
-    if let Some(refusal) = shown.refusal {
-        watch.refused(&RefusedMessage {
-            source: 0,
-            message: 1,
-            refusal,
-        });
-    }
+    watch.refused(0, &refusals);
     Ok(shown.refusal.is_some())
 }
 
@@ -100,6 +96,21 @@ fn shown_refusal(alloc: Global, refusal: MessageRefusal) -> Result<Shown, Stream
         text: refusal_text(alloc, Refusal::Message(refusal))?,
         refusal: Some(refusal),
     })
+}
+
+/// The refusals of a text that is message 1 of source 0.
+fn refused_alone(alloc: Global, refusal: Option<MessageRefusal>) -> Result<Refusals, AllocError>
+    ensures { IfOk result (λ refusals. refusals ≡ refused_alone refusal) }
+{
+    let mut refusals = Refusals::none(alloc);
+    if let Some(refusal) = refusal {
+        refusals.push(RefusedMessage {
+            source: 0,
+            message: 1,
+            refusal,
+        })?;
+    }
+    Ok(refusals)
 }
 
 fn batch_text(alloc: Global, batch: &Batch) -> Result<Vec<u8>, AllocError>

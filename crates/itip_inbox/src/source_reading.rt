@@ -22,9 +22,6 @@ use std::thread::Threads;
 // How many bytes are read for each thread before messages are heard.
 const SHARE: usize = 1_048_576;
 
-// The most bytes of a source that waits for others. A source that waits is read on one thread, so these are few beside a share.
-const WAITING: usize = 262_144;
-
 // The most bytes of one read.
 const ROOM: usize = 65_536;
 
@@ -57,8 +54,8 @@ impl Progress {
 }
 
 /// Reads sources one after another, each to its end, and hears their messages. These are cut, read and heard on at most `threads`
-/// threads, a share of a source at a time: about a mebibyte for each thread, or two on one thread if a message is as long as one may
-/// be. A share may also be of several sources of at most 262,144 bytes each. Of a message that is too long, at most 20 bytes are held
+/// threads, a share at a time: about a mebibyte for each thread, or two on one thread if a message is as long as one may be. A share is
+/// a part of a source, or of several sources that are no longer than a share. Of a message that is too long, at most 20 bytes are held
 /// between shares. If `about` names a UID, the items that the messages tell of it are followed.
 ///
 /// Each source is cut into messages by itself, as a delta is. A refused message is noted and not heard. A source is dropped at its
@@ -73,11 +70,11 @@ pub fn read_sources<R: Read + Drop, W: Watch>(
     watch: &mut W,
 ) -> Result<Inbox, StreamFault>
     ensures holds { IfOk result (λ inbox. (inputs : List (List ℕ)) → AreInputs R.remaining sources.items inputs →
-        Holds inputs inbox.state inbox.refusals.items) }
+        Holds inputs inbox.state inbox.refusals) }
     ensures told { IfOk result (λ inbox. (inputs : List (List ℕ)) → AreInputs R.remaining sources.items inputs →
         TellAbout (option_copied about.entry) inputs inbox.told.items) }
     ensures heard { IfOk result (λ inbox.
-        HasHeard (option_copied about.entry) inbox.state inbox.refusals.items inbox.told.items) }
+        HasHeard (option_copied about.entry) inbox.state inbox.refusals inbox.told.items) }
     ensures source { IfOk result (λ inbox. inbox.source ≡ length sources.items) }
     ensures fault { IfErr result (λ fault. fault ≢ StreamFault.Write) }
 {
@@ -96,11 +93,11 @@ pub(crate) fn read_more<R: Read + Drop, W: Watch>(
     watch: &mut W,
 ) -> Result<Inbox, StreamFault>
     ensures holds { IfOk result (λ inbox. (inputs : List (List ℕ)) → AreInputs R.remaining sources.items inputs →
-        Holds inputs inbox.state inbox.refusals.items) }
+        Holds inputs inbox.state inbox.refusals) }
     ensures told { IfOk result (λ inbox. (inputs : List (List ℕ)) → AreInputs R.remaining sources.items inputs →
         TellAbout (option_copied about.entry) inputs inbox.told.items) }
     ensures heard { IfOk result (λ inbox.
-        HasHeard (option_copied about.entry) inbox.state inbox.refusals.items inbox.told.items) }
+        HasHeard (option_copied about.entry) inbox.state inbox.refusals inbox.told.items) }
     ensures source { IfOk result (λ inbox. inbox.source ≡ length sources.items) }
     ensures fault { IfErr result (λ fault. fault ≢ StreamFault.Write) }
 {
@@ -119,11 +116,11 @@ pub(crate) fn hear_sources<R: Read + Drop, W: Watch>(
     watch: &mut W,
 ) -> Result<OpenInbox, StreamFault>
     ensures holds { IfOk result (λ inbox. (inputs : List (List ℕ)) → AreInputs R.remaining sources.items inputs →
-        Holds inputs inbox.state inbox.refusals.items) }
+        Holds inputs inbox.state inbox.refusals) }
     ensures told { IfOk result (λ inbox. (inputs : List (List ℕ)) → AreInputs R.remaining sources.items inputs →
         TellAbout (option_copied about.entry) inputs inbox.told.items) }
     ensures heard { IfOk result (λ inbox.
-        HasHeard (option_copied about.entry) inbox.state inbox.refusals.items inbox.told.items) }
+        HasHeard (option_copied about.entry) inbox.state inbox.refusals inbox.told.items) }
     ensures source { IfOk result (λ inbox. inbox.source ≡ length sources.items) }
     ensures fault { IfErr result (λ fault. fault ≢ StreamFault.Write) }
 {
@@ -183,8 +180,8 @@ fn read_source<R: Read, W: Watch>(
     Err(StreamFault::Read)
 }
 
-/// Hears all messages of what is held, which nothing follows. If it is the whole source and not long, they may wait for those of
-/// other sources.
+/// Hears all messages of what is held, which nothing follows. If it is the whole source and its first message is not too long, they may
+/// wait for those of other sources.
 fn hear_last(
     inbox: &mut OpenInbox,
     rt: &(impl Threads + Sync),
@@ -207,12 +204,11 @@ fn hear_last(
     hear_all(inbox, rt, alloc, &held, about, threads)
 }
 
-/// Whether what is held may wait, if nothing follows it and `messages` messages of the source were heard: it is the whole source,
-/// and at most 262,144 bytes.
+/// Whether what is held may wait, if nothing follows it and `messages` messages of the source were heard: it is the whole source.
 fn may_wait(held: &Held, messages: u64) -> bool
     ensures { IsTrue result → (held.now.is_long ≡ false) × (messages ≡ 0) }
 {
-    !held.is_long && messages == 0 && held.octets.len() <= WAITING
+    !held.is_long && messages == 0
 }
 
 /// Lets a source of these bytes wait, and hears all that wait once they are a share for each thread.

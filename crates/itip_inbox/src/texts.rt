@@ -1,7 +1,6 @@
 //! Reads many messages at once, for what they tell beside what is kept.
 ghost use Rattle.std.specs.Prelude.{◌≡◌, ◌≢◌, ◌+◌, ◌++◌, ◌∷◌, ℕ, List, Option, [], map, filter, IfOk, IfErr, OnOk};
 ghost use Rattle.std.specs.Option.{option_copied};
-ghost use Rattle.std.specs.Thread.{IsSync};
 ghost use Rattle.itip_items.specs.declared.item.Item.{Item};
 ghost use Rattle.itip_message.specs.Scanned.{messages_of};
 ghost use Rattle.itip_state.specs.Told.{AreNews};
@@ -11,21 +10,18 @@ ghost use Rattle.itip_inbox.specs.Placing.{later_refusal, later_told};
 ghost use Rattle.itip_inbox.specs.Streaming.{Tells};
 
 use crate::counts::count_more;
+use crate::numbered::Numbered;
 use crate::refused::RefusedMessage;
 use crate::shards::Shards;
 use itip_desk::Batch;
 use itip_explain::{Place, ToldItem};
 use itip_items::Item;
-use itip_message::{ReadError, next_message, part_messages, read_message};
+use itip_message::{ReadError, next_message, read_message};
 use itip_state::SharedItem;
 use itip_streams::StreamFault;
 use itip_todo::Uid;
 use std::alloc::{AllocError, Global};
 use std::mem;
-use std::thread::{Threads, join};
-
-/// The fewest bytes that are worth a thread.
-pub(crate) const LEAST: usize = 16_384;
 
 /// What messages tell beside what is kept.
 #[derive(Drop)]
@@ -33,71 +29,11 @@ pub(crate) struct Heard {
     /// How many messages there are, refused ones included.
     pub(crate) count: u64,
     /// The items of theirs that are news.
-    pub(crate) news: Vec<SharedItem>,
+    pub(crate) news: Vec<Numbered>,
     /// The refused messages, in their order.
     pub(crate) refusals: Vec<RefusedMessage>,
     /// Their items of the followed UID, in their order.
     pub(crate) told: Vec<ToldItem>,
-}
-
-/// What all messages of `octets` tell, numbered from 1 and read on at most `threads` threads.
-pub(crate) fn read_share(
-    rt: &(impl Threads + Sync),
-    alloc: Global,
-    kept: &Shards,
-    about: Option<&Uid>,
-    source: usize,
-    octets: &[u8],
-    threads: usize,
-) -> Result<Heard, StreamFault>
-    ensures tells { IfOk result (Tells (option_copied about.entry) kept.now (placed_from source 1 (messages_of octets.now))) }
-    ensures fault { IfErr result (λ fault. fault ≢ StreamFault.Write) }
-{
-    let threads = threads.min(octets.len() / LEAST);
-    read_parts(rt, alloc, kept, about, source, octets, threads)
-}
-
-/// Like [`read_share`], whatever the length: the bytes are split between messages, and each thread reads a part.
-#[cycle(parts)]
-fn read_parts<R: Threads + Sync>(
-    rt: &R,
-    alloc: Global,
-    kept: &Shards,
-    about: Option<&Uid>,
-    source: usize,
-    octets: &[u8],
-    threads: usize,
-) -> Result<Heard, StreamFault>
-    ensures tells { IfOk result (Tells (option_copied about.entry) kept.now (placed_from source 1 (messages_of octets.now))) }
-    ensures fault { IfErr result (λ fault. fault ≢ StreamFault.Write) }
-{
-    if threads < 2 {
-        return read_octets(alloc, kept, about, source, octets);
-    }
-    let before = threads / 2;
-    let after = threads - before;
-    let place = (octets.len() / threads).saturating_mul(before);
-    let Some((front, back)) = part_messages(octets, place) else {
-        return read_octets(alloc, kept, about, source, octets);
-    };
-    let left = move || -> Result<Heard, StreamFault>
-        requires { IsSync R.row }
-        ensures tells { IfOk result (Tells (option_copied about.entry) kept.entry.now
-            (placed_from source 1 (messages_of front.entry.now))) }
-        ensures fault { IfErr result (λ fault. fault ≢ StreamFault.Write) }
-    { read_parts(rt, alloc, kept, about, source, front, before) };
-    let right = move || -> Result<Heard, StreamFault>
-        requires { IsSync R.row }
-        ensures tells { IfOk result (Tells (option_copied about.entry) kept.entry.now
-            (placed_from source 1 (messages_of back.entry.now))) }
-        ensures fault { IfErr result (λ fault. fault ≢ StreamFault.Write) }
-    { read_parts(rt, alloc, kept, about, source, back, after) };
-    let (ours, theirs) = join(rt, left, right);
-    let mut heard = ours?;
-    let mut behind = theirs?;
-    behind.move_behind(alloc, heard.count)?;
-    heard.append(behind)?;
-    Ok(heard)
 }
 
 /// What all messages of `octets` tell, numbered from 1 and read one after another.
@@ -307,7 +243,7 @@ fn is_about(item: &Item, uid: &Uid) -> bool
 
 /// Adds copies of the items that are news to what is kept. If an allocation fails, a part of them may have been added.
 fn add_news(
-    news: &mut Vec<SharedItem>,
+    news: &mut Vec<Numbered>,
     alloc: Global,
     kept: &Shards,
     items: Vec<Item>,
@@ -322,14 +258,15 @@ fn add_news(
 
 // Copies are kept because they have no spare capacity. What is made while a text is read has some, and lies among what is freed.
 fn add_copies(
-    copies: &mut Vec<SharedItem>,
+    copies: &mut Vec<Numbered>,
     alloc: Global,
     items: &[&SharedItem],
 ) -> Result<(), AllocError>
     ensures { OnOk result (copies.new.items ≡ copies.old.items ++ map (λ item. item.now) items.now) }
 {
     for item in items {
-        copies.push(SharedItem::new(alloc, item.item().clone()?)?)?;
+        let copy = SharedItem::new(alloc, item.item().clone()?)?;
+        copies.push(Numbered::new(copy))?;
     }
     Ok(())
 }

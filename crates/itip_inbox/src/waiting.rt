@@ -1,15 +1,17 @@
 //! Sources that were read to their ends and are heard together, so that many small ones are worth several threads.
-ghost use Rattle.std.specs.Prelude.{◌≢◌, IfOk, IfErr};
+ghost use Rattle.std.specs.Prelude.{◌≡◌, ◌≢◌, IfOk, IfErr};
 ghost use Rattle.std.specs.Option.{option_copied};
-ghost use Rattle.std.specs.Thread.{IsSync};
+ghost use Rattle.itip_inbox.specs.Pieces.{pieces_from};
 ghost use Rattle.itip_inbox.specs.Streaming.{Tells, waiting_of};
 
+use crate::read_pieces::read_pieces;
 use crate::shards::Shards;
-use crate::texts::{Heard, read_octets};
+use crate::source_pieces::{Piece, Sizes, cut_source};
+use crate::texts::Heard;
 use itip_streams::StreamFault;
 use itip_todo::Uid;
-use std::alloc::Global;
-use std::thread::{Threads, join};
+use std::alloc::{AllocError, Global};
+use std::thread::Threads;
 
 /// A source that was read to its end.
 #[derive(Drop)]
@@ -20,55 +22,36 @@ pub(crate) struct Waiting {
     pub(crate) octets: Vec<u8>,
 }
 
-/// What the messages of some sources tell, read on `threads` threads, or on one if that is 0: each reads some of the sources.
-#[cycle(waits)]
+/// What the messages of some sources tell, read on `threads` threads, or on one if that is 0. The sources have `octets` bytes in all: each
+/// thread reads about as many of them.
 pub(crate) fn read_waiting<R: Threads + Sync>(
     rt: &R,
     alloc: Global,
     kept: &Shards,
     about: Option<&Uid>,
     waiting: &[Waiting],
+    octets: usize,
     threads: usize,
 ) -> Result<Heard, StreamFault>
     ensures tells { IfOk result (Tells (option_copied about.entry) kept.now (waiting_of waiting.now)) }
     ensures fault { IfErr result (λ fault. fault ≢ StreamFault.Write) }
 {
-    if threads < 2 {
-        return read_in_turn(alloc, kept, about, waiting);
-    }
-    let (front, back) = waiting.split_at(waiting.len() / 2);
-    let before = threads / 2;
-    let after = threads - before;
-    let left = move || -> Result<Heard, StreamFault>
-        requires { IsSync R.row }
-        ensures tells { IfOk result (Tells (option_copied about.entry) kept.entry.now (waiting_of front.entry.now)) }
-        ensures fault { IfErr result (λ fault. fault ≢ StreamFault.Write) }
-    { read_waiting(rt, alloc, kept, about, front, before) };
-    let right = move || -> Result<Heard, StreamFault>
-        requires { IsSync R.row }
-        ensures tells { IfOk result (Tells (option_copied about.entry) kept.entry.now (waiting_of back.entry.now)) }
-        ensures fault { IfErr result (λ fault. fault ≢ StreamFault.Write) }
-    { read_waiting(rt, alloc, kept, about, back, after) };
-    let (ours, theirs) = join(rt, left, right);
-    let mut heard = ours?;
-    heard.append(theirs?)?;
-    Ok(heard)
+    let pieces = cut_waiting(alloc, waiting, Sizes::of(octets, threads))?;
+    read_pieces(rt, alloc, kept, about, pieces.as_slice(), threads)
 }
 
-/// Like [`read_waiting`], one source after another.
-fn read_in_turn(
+/// The pieces of sources.
+fn cut_waiting(
     alloc: Global,
-    kept: &Shards,
-    about: Option<&Uid>,
     waiting: &[Waiting],
-) -> Result<Heard, StreamFault>
-    ensures tells { IfOk result (Tells (option_copied about.entry) kept.now (waiting_of waiting.now)) }
-    ensures fault { IfErr result (λ fault. fault ≢ StreamFault.Write) }
+    sizes: Sizes,
+) -> Result<Vec<Piece<'_>>, AllocError>
+    ensures { IfOk result (λ pieces. pieces_from 0 pieces.items ≡ waiting_of waiting.now) }
 {
-    let mut heard = Heard::nothing(alloc);
+    let mut sizes = sizes;
+    let mut pieces = Vec::new(alloc);
     for one in waiting {
-        let more = read_octets(alloc, kept, about, one.source, one.octets.as_slice())?;
-        heard.append(more)?;
+        cut_source(&mut pieces, &mut sizes, one.source, one.octets.as_slice())?;
     }
-    Ok(heard)
+    Ok(pieces)
 }

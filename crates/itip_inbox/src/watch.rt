@@ -1,5 +1,5 @@
 //! Who is told how far reading has come, and what was refused.
-use crate::refused::RefusedMessage;
+use crate::refusals::Refusals;
 use itip_view::MostRows;
 
 /// What is told of sources besides the output. Nothing that is read or written depends on it.
@@ -12,8 +12,8 @@ pub trait Watch {
     /// How many messages were heard or refused so far, and how many bytes were read, of all sources.
     fn read(&mut self, messages: u64, octets: u64);
 
-    /// This message was refused.
-    fn refused(&mut self, refused: &RefusedMessage);
+    /// These messages were refused, if there are any. Their sources come after `before` others.
+    fn refused(&mut self, before: usize, refusals: &Refusals);
 
     /// No message was refused, but there were too many rows; this to-do has the most of them.
     fn too_many_rows(&mut self, most: &MostRows);
@@ -24,7 +24,7 @@ impl Watch for () {
 
     fn read(&mut self, _messages: u64, _octets: u64) {}
 
-    fn refused(&mut self, _refused: &RefusedMessage) {}
+    fn refused(&mut self, _before: usize, _refusals: &Refusals) {}
 
     fn too_many_rows(&mut self, _most: &MostRows) {}
 }

@@ -22,7 +22,7 @@ pub returns-in_err-write_items-clause-front : goal.returns-in_err-write_items-cl
 returns-in_err-write_items-clause-front g c =
     on_err c.from_residual-in_err-write_items.result
     (compaction_front g.R.Read.remaining c.args.sources.items (g.W.Write.contents c.args.writer.now)
-    (g.W.Write.contents c.write_items.new.writer) c.in_ok-inbox.inbox.state c.in_ok-inbox.inbox.refusals.items
+    (g.W.Write.contents c.write_items.new.writer) c.in_ok-inbox.inbox.state c.in_ok-inbox.inbox.refusals
     c.in_ok-inbox.ensures.holds c.in_ok-items.items.items c.in_ok-items.ensures
     (subst (λ (items : List Item). AppendsFront (g.W.Write.contents c.args.writer.now) (g.W.Write.contents c.write_items.new.writer)
     (delta_octets items)) c.as_slice.ensures.value c.in_err-write_items.ensures.front))
@@ -30,7 +30,7 @@ returns-in_err-write_items-clause-front g c =
 pub returns-clause-output : goal.returns-clause-output
 returns-clause-output g c = λ inputs are.
     compaction_written (g.W.Write.contents c.args.writer.now) (g.W.Write.contents c.write_items.new.writer) inputs
-    c.in_ok-inbox.inbox.state c.in_ok-items.items.items c.in_ok-inbox.inbox.refusals.items c.has_refusals-is_refused.result
+    c.in_ok-inbox.inbox.state c.in_ok-items.items.items c.in_ok-inbox.inbox.refusals c.has_refusals-is_refused.result
     (c.in_ok-inbox.ensures.holds inputs are) c.in_ok-items.ensures
     (subst (λ (items : List Item). Appends (g.W.Write.contents c.args.writer.now) (g.W.Write.contents c.write_items.new.writer)
     (delta_octets items)) c.as_slice.ensures.value c.in_ok-write_items.ensures.all)

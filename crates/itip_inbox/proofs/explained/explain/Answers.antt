@@ -46,7 +46,7 @@ returns-in_err-write_output-clause-front g c =
     c.as_slice-told.ensures.value c.in_ok-text.ensures in
     on_err c.from_residual-in_err-write_output.result (λ inputs are.
     explained_front c.args.uid.now c.args.names.now inputs c.in_ok-inbox.inbox.told.items c.in_ok-text.text.items
-    c.in_ok-inbox.inbox.state c.in_ok-inbox.inbox.refusals.items (c.in_ok-inbox.ensures.told inputs are) explains
+    c.in_ok-inbox.inbox.state c.in_ok-inbox.inbox.refusals (c.in_ok-inbox.ensures.told inputs are) explains
     (c.in_ok-inbox.ensures.holds inputs are) (g.W.Write.contents c.args.writer.now) (g.W.Write.contents c.write_output.new.writer)
     (subst (λ (t : List ℕ). AppendsFront (g.W.Write.contents c.args.writer.now) (g.W.Write.contents c.write_output.new.writer) t)
     c.as_slice.ensures.value c.in_err-write_output.ensures.front))
@@ -63,7 +63,7 @@ returns-clause-output g c = λ inputs are.
           (Decides-eqb (length c.as_slice-told.result.now) 0).1 (ap length (c.as_slice-told.ensures.value ∙ none)) in
           let apart : true ≡ false = sym zero ∙ some in cc),
       explained_written c.args.uid.now c.args.names.now inputs c.in_ok-inbox.inbox.told.items c.in_ok-text.text.items
-          c.in_ok-inbox.inbox.state c.in_ok-inbox.inbox.refusals.items (c.in_ok-inbox.ensures.told inputs are) explains
+          c.in_ok-inbox.inbox.state c.in_ok-inbox.inbox.refusals (c.in_ok-inbox.ensures.told inputs are) explains
           (c.in_ok-inbox.ensures.holds inputs are) (g.W.Write.contents c.args.writer.now) (g.W.Write.contents c.write_output.new.writer)
           c.has_refusals.result
           (subst (λ (t : List ℕ). Appends (g.W.Write.contents c.args.writer.now) (g.W.Write.contents c.write_output.new.writer) t)

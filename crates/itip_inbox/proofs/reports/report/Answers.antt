@@ -15,13 +15,13 @@ pub returns-in_err-is_over-clause-front : goal.returns-in_err-is_over-clause-fro
 returns-in_err-is_over-clause-front g c =
     on_err c.from_residual-in_err-is_over.result (λ inputs are.
     one_kept_front (λ heard. IsReported c.args.name heard c.args.window) c.in_ok-inbox.inbox.state
-    c.in_ok-inbox.inbox.refusals.items g.R.Read.remaining c.args.sources.items (g.W.Write.contents c.args.writer.now)
+    c.in_ok-inbox.inbox.refusals g.R.Read.remaining c.args.sources.items (g.W.Write.contents c.args.writer.now)
     (g.W.Write.contents c.write_report.new.writer) c.in_ok-inbox.ensures.holds inputs are
     (λ heard. reported_once c.args.name heard c.args.window) c.in_err-is_over.ensures.front)
 
 pub returns-clause-output : goal.returns-clause-output
 returns-clause-output g c = λ inputs are.
     kept_written (λ heard. IsReported c.args.name heard c.args.window) c.in_ok-inbox.inbox.state
-    c.in_ok-inbox.inbox.refusals.items g.R.Read.remaining c.args.sources.items (g.W.Write.contents c.args.writer.now)
+    c.in_ok-inbox.inbox.refusals g.R.Read.remaining c.args.sources.items (g.W.Write.contents c.args.writer.now)
     (g.W.Write.contents c.write_report.new.writer) c.in_ok-inbox.ensures.holds inputs are c.in_ok-is_over.is_over _
     c.in_ok-is_over.ensures.written (ap (λ b. b || c.in_ok-is_over.is_over) c.has_refusals-is_refused.ensures)

@@ -64,14 +64,16 @@ loop-item-preserved c =
       | then-is_of+in_ok-hear w ↦
           let is : shard_of count (uid_of c.item-item.result.key) ≡ number =
           (Decides-eqb (shard_of count (uid_of c.item-item.result.key)) number).0 (sym c.is_of.ensures ∙ w.if-is_of.true) in
+          let kept : AreKept w.hear.new.self (c.loop-item.state ++ c.item-item.result ∷ []) =
+          subst (λ (i : Item). AreKept w.hear.new.self (c.loop-item.state ++ i ∷ [])) w.item.ensures w.in_ok-hear.ensures.ok in
           record {
             hears = subst (λ (state : List Item). AreKept state (c.args.state.now ++ of_shard count number
                 (take (c.loop-item.item-index + 1) c.args.items.now))) (sym w.state-is)
                 (heard_one count number c.args.state.now c.loop-item.state w.hear.new.self heard c.args.items.now c.loop-item.item-index
                 c.item-item.result (of_it count number c.args.items.now c.loop-item.item-index c.item-item.result c.loop-item-test.true
-                c.item-item.is is) c.loop-item.invariant.hears w.in_ok-hear.ensures.ok);
+                c.item-item.is is) c.loop-item.invariant.hears kept);
             stays = λ are. subst (AreOfShard count number) (sym w.state-is)
-                (stays_one count number c.loop-item.state w.hear.new.self c.item-item.result is w.in_ok-hear.ensures.ok
+                (stays_one count number c.loop-item.state w.hear.new.self c.item-item.result is kept
                 (c.loop-item.invariant.stays are));
           }
       | else-is_of w ↦ record {

@@ -9,6 +9,11 @@ pub returns-in_err-shown-clause-front : goal.returns-in_err-shown-clause-front
 returns-in_err-shown-clause-front g c =
     on_err c.from_residual.result (shown_unread (g.W.Write.contents c.args.writer.now) (g.R.Read.remaining c.args.reader.now))
 
+pub returns-in_err-refusals-clause-front : goal.returns-in_err-refusals-clause-front
+returns-in_err-refusals-clause-front g c =
+    on_err c.from_residual-in_err-refusals.result
+    (shown_unread (g.W.Write.contents c.args.writer.now) (g.R.Read.remaining c.args.reader.now))
+
 pub returns-in_err-write_output-clause-front : goal.returns-in_err-write_output-clause-front
 returns-in_err-write_output-clause-front g c =
     on_err c.from_residual-in_err-write_output.result

@@ -13,7 +13,7 @@ returns-clause-keeps g c = λ before text long got.
     c.in_ok-hear_waiting.ensures.source c.in_ok-hear_waiting.ensures.messages c.in_ok-hear_waiting.ensures.none
     (keeps_refusal (option_copied c.args.about) before c.hear_waiting.new.self _ text (of_lines too_long) c.in_ok-message.message
     (at_lines too_long (inl (refl, long))) refl refl c.in_ok-message.ensures.sum
-    (c.in_ok-push.ensures.items ∙ ap (λ (r : MessageRefusal). c.hear_waiting.new.self.refusals.items ++
+    (c.in_ok-push.ensures.adds ∙ ap (λ (r : MessageRefusal). c.hear_waiting.new.self.refusals ++
     (record { source = c.hear_waiting.new.self.source; message = c.in_ok-message.message; refusal = r }) ∷ []) c.from.ensures)
     (c.in_ok-hear_waiting.ensures.keeps before got))
 
