@@ -1,4 +1,3 @@
 pub mod Filtering
 pub mod Beginning
 pub mod Unread
-mod Fronts

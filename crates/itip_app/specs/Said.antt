@@ -1,12 +1,11 @@
 -- What is said of refused messages, and whether causes are asked for (docs/USING.md; our own rule).
-use Rattle.std.specs.Prelude.{◌≡◌, ℕ, Bool, List, ◌++◌, Option, codes, string_bytes}
+use Rattle.std.specs.Prelude.{◌≡◌, ℕ, Bool, List, Option}
 use Rattle.itip_desk.specs.Refusals.{number_of}
 use Rattle.itip_desk.specs.declared.refusal.Refusal.TheVariants.{Message}
 use Rattle.itip_inbox.specs.declared.refused.RefusedMessage.{RefusedMessage}
 use Rattle.itip_streams.specs.Told.{place_of, refusal_at}
 use Rattle.itip_streams.specs.Visible.{visible}
 use Rattle.itip_streams.specs.declared.source_name.SourceName.{SourceName}
-use Rattle.itip_streams.specs.declared.source_name.SourceName.TheVariants as named
 use Rattle.itip_words.specs.declared.words.Call.{Call}
 use Rattle.itip_words.specs.declared.words.Call.TheVariants as call
 
@@ -14,12 +13,6 @@ use Rattle.itip_words.specs.declared.words.Call.TheVariants as call
 abbrev pub IsRefusedLine : SourceName → RefusedMessage → Option (List ℕ) → List ℕ → Type 0
 IsRefusedLine name refused cause line =
     line ≡ visible (refusal_at (place_of name refused.message) (number_of (Message refused.refusal)) cause)
-
--- what stands before the number of a message where it is named
-abbrev pub front_of : SourceName → List ℕ
-front_of named.StandardInput = codes "message "
-front_of (named.File name) = string_bytes name ++ codes " message "
-front_of (named.Unreadable name) = string_bytes name ++ codes " message "
 
 -- a call asks where and why something was refused: `--why`
 abbrev pub asks_causes : Call → Bool

@@ -1,21 +1,18 @@
 //! What is said besides the output: help, what was refused, where and why, and how much has been read. What can't be written to
 //! standard error, or has no memory, is left out.
-ghost use Rattle.std.specs.Prelude.{◌≡◌, ◌++◌, ◌∷◌, [], ℕ, List, Bool, true, false, Some, None, IfOk, OnOk, OnErr, codes};
+ghost use Rattle.std.specs.Prelude.{◌≡◌, ◌++◌, ◌∷◌, [], ℕ, List, Bool, true, false, Some, None, IfOk, OnOk, OnErr};
 ghost use Rattle.std.specs.String.{string_bytes};
 ghost use Rattle.itip_desk.specs.Refusals.{number_of_file};
 ghost use Rattle.itip_message.specs.RefusalNumbers.{number_of};
 ghost use Rattle.itip_words.specs.declared.no_call.NoCall.{NoCall};
 ghost use Rattle.itip_words.specs.declared.words.Call.{Call};
-ghost use Rattle.itip_streams.specs.Told.{place_of, refusal_at};
-ghost use Rattle.itip_streams.specs.Visible.{visible};
-ghost use Rattle.itip_streams.specs.declared.source_name.SourceName.{SourceName};
-ghost use Rattle.itip_app.specs.Said.{IsRefusedLine, asks_causes, front_of};
+ghost use Rattle.itip_app.specs.Said.{IsRefusedLine, asks_causes};
 
 use crate::filters::Named;
 use itip_desk::{FileRefusal, Refusal};
 use itip_inbox::{Refusals, RefusedMessage};
 use itip_message::MessageRefusal;
-use itip_streams::{SourceName, refused_line, visible_text};
+use itip_streams::{ShownSource, SourceName};
 use itip_todo::PropertyName;
 use itip_view::MostRows;
 use itip_words::{Call, Filter, NoCall, most_line};
@@ -102,7 +99,8 @@ pub(crate) struct Causes {
     are_asked: bool,
 }
 
-/// Names the refused messages of sources, and the to-do with the most rows if there are too many; and shows the progress of reading.
+/// Names the refused messages of sources, and, where causes are asked for, the to-do with the most rows if there are too many; and shows
+/// the progress of reading.
 #[derive(Drop)]
 pub(crate) struct Teller<'a, R> {
     rt: &'a R,
@@ -132,7 +130,7 @@ const NO_PROGRESS: Progress = Progress {
 // How many bytes are read before progress is shown again: a folder of many small files has no line for each.
 const SHARE: u64 = 1_048_576;
 
-// How many bytes standard error takes in one write. A write costs more than the lines in it.
+// How many bytes std's buffer for standard error has. A write costs more than the lines in it.
 const WRITTEN_AT_ONCE: usize = 1_024;
 
 impl<'a, R: AllocGlobal + Eprint> Teller<'a, R> {
@@ -198,59 +196,26 @@ impl<'a, R: AllocGlobal + Eprint> Teller<'a, R> {
         lines.clear();
     }
 
-    /// The line about a refused message of a source with this front.
+    /// The line about a refused message of a source.
     fn line_of(
         &self,
-        name: &SourceName,
-        front: &str,
+        source: &ShownSource<'_>,
         refused: &RefusedMessage,
     ) -> Result<String, AllocError>
-        ensures bare { self.now.causes.are_asked ≡ false → front.now ≡ visible (front_of name.now) → IfOk result (λ line.
-            IsRefusedLine name.now refused.now None (string_bytes line)) }
+        ensures bare { self.now.causes.are_asked ≡ false → IfOk result (λ line.
+            IsRefusedLine source.now refused.now None (string_bytes line)) }
         ensures caused { self.now.causes.are_asked ≡ true → IfOk result (λ line. (cause : List ℕ) ×
-            IsRefusedLine name.now refused.now (Some cause) (string_bytes line)) }
+            IsRefusedLine source.now refused.now (Some cause) (string_bytes line)) }
     {
         let alloc = self.rt.alloc();
         let refusal = Refusal::Message(refused.refusal);
         let number = refusal.number();
         if !self.causes.are_asked {
-            return bare_line(alloc, front, refused.message, number);
+            return source.refused_line(alloc, refused.message, number);
         }
         let why = refusal.to_string(alloc)?;
-        refused_line(alloc, name, refused.message, number, Some(why.as_str()))
+        source.explained_line(alloc, refused.message, number, why.as_str())
     }
-}
-
-/// What is shown of a source before the number of a message. It is made once for many lines, which then are only put together.
-fn shown_front(alloc: Global, name: &SourceName) -> Result<String, AllocError>
-    ensures { IfOk result (λ front. string_bytes front ≡ visible (front_of name.now)) }
-{
-    let front = front_of(alloc, name)?;
-    visible_text(alloc, front.as_str())
-}
-
-fn front_of(alloc: Global, name: &SourceName) -> Result<String, AllocError>
-    ensures { IfOk result (λ front. string_bytes front ≡ front_of name.now) }
-{
-    match name {
-        SourceName::StandardInput => String::from_str(alloc, "message "),
-        SourceName::File(name) => front_of_file(alloc, name.as_str()),
-        SourceName::Unreadable(name) => front_of_file(alloc, name.as_str()),
-    }
-}
-
-fn front_of_file(alloc: Global, name: &str) -> Result<String, AllocError>
-    ensures { IfOk result (λ front. string_bytes front ≡ name.now ++ codes " message ") }
-{
-    Ok(format!(in alloc; "{name} message ")?)
-}
-
-/// The line about a refused message, without its cause, of a source with this front.
-fn bare_line(alloc: Global, front: &str, message: u64, number: u32) -> Result<String, AllocError>
-    ensures { (name : SourceName) → front.now ≡ visible (front_of name) → IfOk result (λ line.
-        string_bytes line ≡ visible (refusal_at (place_of name message) number None)) }
-{
-    Ok(format!(in alloc; "{front}{message}: refused {number}")?)
 }
 
 /// Adds a line and its line break. If an allocation fails, nothing is added.
@@ -283,16 +248,16 @@ impl<'a, R: AllocGlobal + Eprint> itip_inbox::Watch for Teller<'a, R> {
         let alloc = self.rt.alloc();
         let mut lines = String::new(alloc);
         let mut place = 0;
-        let mut front = None;
+        let mut shown = None;
         for refused in refusals.iter() {
             let source = before.saturating_add(refused.source);
             if let Some(name) = self.named.at(source) {
-                if front.is_none() || place != source {
+                if shown.is_none() || place != source {
                     place = source;
-                    front = shown_front(alloc, name).ok();
+                    shown = ShownSource::new(alloc, name).ok();
                 }
-                if let Some(front) = &front {
-                    self.collect(&mut lines, self.line_of(name, front.as_str(), &refused));
+                if let Some(shown) = &shown {
+                    self.collect(&mut lines, self.line_of(shown, &refused));
                 }
             }
         }

@@ -34,7 +34,8 @@ use Rattle.itip_desk.specs.declared.file_text.FileHead.{FileHead}
 use Rattle.itip_desk.specs.DeskFile.{parameter_text, product_parameters, version_parameters, begins_text, product_text, version_text}
 use Rattle.itip_desk.specs.DeskFile.{message_text}
 use Rattle.itip_desk.specs.FileReading.{IsHead}
-use Rattle.itip_desk.proofs.FileNumbers.{both_true, decimal_all, decimal_none, parameter_size}
+use Rattle.itip_streams.proofs.Decimals.{both_true, decimal_all, decimal_none}
+use Rattle.itip_desk.proofs.FileNumbers.{parameter_size}
 use Rattle.itip_desk.proofs.ReadDeltas.{others, lawful_front, concat_octets, none_more, end_of_todo, end_of_calendar}
 
 -- ---- the parameters as those of content lines

@@ -1,49 +1,23 @@
 -- Numbers in the file of a desk: what is written of a number is read back as it, and bytes begin with one number only.
-use Rattle.std.proofs.Common.{◌≡◌, ◌∙◌, sym, ap, refl, ℕ, zero, suc, ◌+◌, ◌%◌, ◌<◌, ◌≤◌, ◌^◌, Bool, true, false, cond, ◌&&◌, ◌||◌}
+use Rattle.std.proofs.Common.{◌≡◌, ◌∙◌, sym, ap, refl, ℕ, zero, suc, ◌+◌, ◌<◌, ◌≤◌, ◌^◌, Bool, true, false, cond}
 use Rattle.std.proofs.Common.{List, [], ◌∷◌, ◌++◌, length, get_or, take, drop, arith, subst, append_assoc, take-append-drop}
 use Rattle.std.proofs.Common.{Option, Some, None, MatchOption, IfSome, IfNone, Result, Ok, Err, ltb}
 use Rattle.std.specs.Fmt.{decimal}
 use Rattle.std.specs.Int.{IsInRange}
-use Rattle.std.specs.List.{list_all, list_any}
+use Rattle.std.specs.List.{list_all}
 use Rattle.std.specs.Result.{result_ok}
 use Rattle.std.specs.Str.{IsUtf8}
 use Rattle.std.specs.Str.Parse.{ParsesUnsigned}
 use Rattle.std.proofs.lemmas.Bool.{and_parts, ltb-true, ltb-false}
 use Rattle.std.proofs.lemmas.Bool.Decides.{nat_tests}
-use Rattle.std.proofs.lemmas.Fmt.{IsAscii-from_digits, decimal_by_steps, decimal_nonempty, digits_decimal}
+use Rattle.std.proofs.lemmas.Fmt.{IsAscii-from_digits, decimal_nonempty, digits_decimal}
 use Rattle.std.proofs.lemmas.Fmt.{digits_value-decimal, length-decimal-le}
 use Rattle.std.proofs.lemmas.List.{append_cancel_left, length-append, length-take-le, take_at}
-use Rattle.std.proofs.lemmas.List.Folds.{list_all-append, list_any-append}
 use Rattle.std.proofs.lemmas.Str.{IsUtf8-from_ascii}
 use Rattle.std.proofs.lemmas.Str.Parse.{IsDigitsTest, IsNumeralModel, numerals_by_fold, parse_digits}
+use Rattle.itip_streams.proofs.Decimals.{both_true}
 use Rattle.itip_desk.specs.DeskFile.{parameter_text, is_digit, digits_before, digits_value, HasNumber}
 use Rattle.itip_desk.specs.FileReading.{IsBehind, IsValue}
-
--- ---- facts about the digits of a number
-
-pub both_true : (a b : Bool) → a ≡ true → b ≡ true → (a && b) ≡ true
-both_true true b e f = f
-both_true false b e f = e
-
-neither : (a b : Bool) → a ≡ false → b ≡ false → (a || b) ≡ false
-neither true b e f = e
-neither false b e f = f
-
-one_all : (p : ℕ → Bool) (b : ℕ) → p b ≡ true → list_all p (b ∷ []) ≡ true
-one_all p b e = ap (λ (t : Bool). t && true) e
-
-one_none : (p : ℕ → Bool) (b : ℕ) → p b ≡ false → list_any p (b ∷ []) ≡ false
-one_none p b e = ap (λ (t : Bool). t || false) e
-
-pub decimal_all : (p : ℕ → Bool) → ((d : ℕ) → d < 10 → p (48 + d) ≡ true) → (n : ℕ) → n < 2 ^ 64 → list_all p (decimal n) ≡ true
-decimal_all p each = decimal_by_steps (λ n ds. list_all p ds ≡ true) (λ n h. one_all p (48 + n) (each n h))
-    (λ n ds h before. list_all-append p ds ((48 + n % 10) ∷ []) ∙
-    both_true (list_all p ds) (list_all p ((48 + n % 10) ∷ [])) before (one_all p (48 + n % 10) (each (n % 10) (omega arith))))
-
-pub decimal_none : (p : ℕ → Bool) → ((d : ℕ) → d < 10 → p (48 + d) ≡ false) → (n : ℕ) → n < 2 ^ 64 → list_any p (decimal n) ≡ false
-decimal_none p each = decimal_by_steps (λ n ds. list_any p ds ≡ false) (λ n h. one_none p (48 + n) (each n h))
-    (λ n ds h before. list_any-append p ds ((48 + n % 10) ∷ []) ∙
-    neither (list_any p ds) (list_any p ((48 + n % 10) ∷ [])) before (one_none p (48 + n % 10) (each (n % 10) (omega arith))))
 
 -- a parameter has at most 20 digits after its name
 pub parameter_size : (name : List ℕ) (n : ℕ) → n < 2 ^ 64 → length (parameter_text name n) ≤ length name + 20

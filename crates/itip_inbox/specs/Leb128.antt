@@ -1,4 +1,4 @@
--- Numbers as bytes (LEB128): seven bits in each byte, the lowest first, and 128 added to each byte but the last.
+-- Numbers as bytes (LEB128): seven bits in each byte, the lowest first, and 128 added to each byte but the last (our own form).
 use Rattle.std.specs.Prelude.{◌≡◌, ℕ, ◌+◌, ◌-◌, ◌*◌, ◌^◌, ◌≤◌, nat_lt, List, [], ◌∷◌, ◌++◌, if◌then◌else◌}
 
 -- these numbers, with seven bits more below those of the first

@@ -83,6 +83,13 @@ impl Shards {
         Ok(news.is_empty())
     }
 
+    /// An item on its way to its shard.
+    pub(crate) fn numbered(&self, item: SharedItem) -> Numbered
+        ensures { result ≡ item }
+    {
+        Numbered::new(item, self.shards.len())
+    }
+
     /// Hears items, each shard those of its UIDs, and many items on several threads. If an allocation fails, some may have been heard.
     pub(crate) fn hear<R: Threads + Sync>(
         &mut self,

@@ -253,20 +253,21 @@ fn add_news(
 {
     let batch = Batch::of_items(items)?;
     let new = kept.news(alloc, batch.as_slice())?;
-    add_copies(news, alloc, new.as_slice())
+    add_copies(news, alloc, kept, new.as_slice())
 }
 
 // Copies are kept because they have no spare capacity. What is made while a text is read has some, and lies among what is freed.
 fn add_copies(
     copies: &mut Vec<Numbered>,
     alloc: Global,
+    kept: &Shards,
     items: &[&SharedItem],
 ) -> Result<(), AllocError>
     ensures { OnOk result (copies.new.items ≡ copies.old.items ++ map (λ item. item.now) items.now) }
 {
     for item in items {
         let copy = SharedItem::new(alloc, item.item().clone()?)?;
-        copies.push(Numbered::new(copy))?;
+        copies.push(kept.numbered(copy))?;
     }
     Ok(())
 }

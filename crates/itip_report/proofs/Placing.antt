@@ -1,10 +1,10 @@
 -- Items in the order of their keys that are sorted by place.
 use Rattle.std.proofs.Common.{◌≡◌, ◌<◌, ℕ, zero, suc, List, [], ◌∷◌, refl, sym, ap, ◌∙◌, subst, map, get_or, length, Bool, true, false}
-use Rattle.std.proofs.Common.{arith}
+use Rattle.std.proofs.Common.{arith, Option, Some, None}
 use Rattle.std.specs.List.{Contains, AllPairs, IsDistinct, AllByRecursion}
 use Rattle.std.specs.List.Sorted.{IsPermutation, IsSortedBy}
 use Rattle.std.specs.Option.{option_cmp}
-use Rattle.std.specs.Ordering.{nat_cmp, ordering_then, ordering_reverse, is_lt, is_eq}
+use Rattle.std.specs.Ordering.{nat_cmp, int_cmp, ordering_then, ordering_reverse, is_lt, is_eq}
 use Rattle.std.specs.Cmp.{IsTotalOrder, eq_by_cmp_equiv, tied_itself}
 use Rattle.std.specs.Cmp.Lexicographic.{slice_cmp, options_total}
 use Rattle.std.specs.declared.cmp.Ordering.{Ordering}
@@ -14,13 +14,15 @@ use Rattle.std.proofs.lemmas.List.{length-map}
 use Rattle.std.proofs.lemmas.List.Sorted.{ranks_by, sorted_far}
 use Rattle.std.proofs.lemmas.Map.Keys.{IsDistinct-IsPermutation, apart_from_distinct}
 use Rattle.std.proofs.lemmas.Map.Lookups.{CmpEqualImpliesEq}
+use Rattle.itip_moment.specs.Moment.{moment_day, moment_second}
 use Rattle.itip_moment.specs.Order.{moment_cmp}
 use Rattle.itip_moment.specs.OrderLaws.{moment_total}
+use Rattle.itip_moment.specs.declared.moment.Moment.{Moment}
 use Rattle.itip_items.specs.KeyParts.{uid_of, rank_of, instance_of, attendee_of}
 use Rattle.itip_items.specs.declared.item.Item.{Item}
 use Rattle.itip_items.specs.declared.key.Key.{Key}
 use Rattle.itip_state.specs.Kept.{AscendKeys}
-use Rattle.itip_state.specs.Slots.{key_cmp, key_total, key_exact, then_equal}
+use Rattle.itip_state.specs.Slots.{time_cmp, key_cmp, key_total, key_exact, then_equal}
 use Rattle.itip_state.proofs.Members.{no_pairs, cons_first, cons_later}
 use Rattle.itip_state.proofs.Ordered.{IsBefore}
 use Rattle.itip_state.proofs.OfKey.{head_pair, tail_pairs}
@@ -32,13 +34,25 @@ place_total =
     (then_total (on_total instance_of (options_total moment_total))
     (then_total (on_total attendee_of nat_list_cmp_total) (on_total rank_of nat_cmp_total)))
 
+-- what is one instance has one time
+one_time : (a b : Option Moment) → option_cmp moment_cmp a b ≡ Equal → option_cmp time_cmp a b ≡ Equal
+one_time None None e = refl
+one_time None (Some b) e = cc
+one_time (Some a) None e = cc
+one_time (Some a) (Some b) e =
+    let days = then_equal (int_cmp (moment_day a) (moment_day b)) _ e in
+    let seconds = then_equal (option_cmp nat_cmp (moment_second a) (moment_second b)) _ days.1 in
+    λ i. ordering_then (days.0 i) (seconds.0 i)
+
 -- keys at one place are one key
 pub place_exact : CmpEqualImpliesEq place_cmp
 place_exact a b e =
     let uids = then_equal (slice_cmp nat_cmp (uid_of a) (uid_of b)) _ e in
     let instances = then_equal (option_cmp moment_cmp (instance_of a) (instance_of b)) _ uids.1 in
     let others = then_equal (slice_cmp nat_cmp (attendee_of a) (attendee_of b)) _ instances.1 in
-    key_exact a b (λ i. ordering_then (uids.0 i) (ordering_then (others.1 i) (ordering_then (others.0 i) (instances.0 i))))
+    let times = one_time (instance_of a) (instance_of b) instances.0 in
+    key_exact a b (λ i. ordering_then (uids.0 i) (ordering_then (others.1 i) (ordering_then (times i)
+    (ordering_then (others.0 i) (instances.0 i)))))
 
 abbrev same_key : Item → Item → Bool
 same_key a b = is_eq (key_cmp a.key b.key)

@@ -19,7 +19,7 @@ use Rattle.itip_items.specs.declared.key.Key.{Key}
 use Rattle.itip_state.specs.declared.parts.KeyParts.{KeyParts}
 use Rattle.itip_state.specs.Kept.{AreOf, AscendKeys}
 use Rattle.itip_state.specs.Parts.{HasParts, parts_cmp}
-use Rattle.itip_state.specs.Slots.{slot_cmp, slot_total, slot_exact}
+use Rattle.itip_state.specs.Slots.{time_cmp, slot_cmp, slot_total, slot_exact}
 use Rattle.itip_state.proofs.Members.{none_in, cons_cases, cons_first, cons_later}
 use Rattle.itip_state.proofs.Ordered.{slot_is_key}
 
@@ -27,7 +27,8 @@ use Rattle.itip_state.proofs.Ordered.{slot_is_key}
 pub as_key : (a key : Key) (parts : KeyParts) → HasParts key parts → parts_cmp a parts ≡ slot_cmp a key
 as_key a key parts has = λ i.
     ordering_then (ordering_then (nat_cmp (rank_of a) (sym has.rank i))
-    (ordering_then (slice_cmp nat_cmp (attendee_of a) (sym has.attendee i)) (option_cmp moment_cmp (instance_of a) (sym has.instance i))))
+    (ordering_then (option_cmp time_cmp (instance_of a) (sym has.instance i))
+    (ordering_then (slice_cmp nat_cmp (attendee_of a) (sym has.attendee i)) (option_cmp moment_cmp (instance_of a) (sym has.instance i)))))
     (slice_cmp nat_cmp (uid_of a) (sym has.uid i))
 
 -- each item's slot is before those of the later ones

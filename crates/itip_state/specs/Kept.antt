@@ -91,7 +91,7 @@ abbrev pub HasEachOnce : List Item → Type 0
 HasEachOnce = AllPairs (λ (a b : Item). a ≢ b)
 
 -- Items in the order of their keys: by UID, then the series item, instances and then ranges, each by recurrence id, answers and then
--- refresh requests, each by attendee and instance.
+-- refresh requests, each by the day and the second of the instance, attendee and instance.
 abbrev pub AscendKeys : List Item → Type 0
 AscendKeys = AllPairs (λ (a b : Item). key_cmp a.key b.key ≡ Less)
 

@@ -7,6 +7,7 @@ use Rattle.std.specs.declared.cmp.Ordering.{Ordering}
 use Rattle.itip_moment.specs.Order.{moment_cmp}
 use Rattle.itip_items.specs.KeyParts.{uid_of, rank_of, instance_of, attendee_of}
 use Rattle.itip_items.specs.declared.key.Key.{Key}
+use Rattle.itip_state.specs.Slots.{time_cmp}
 use Rattle.itip_state.specs.declared.parts.KeyParts.{KeyParts}
 
 -- the key has these parts
@@ -17,10 +18,15 @@ pub record HasParts (key : Key) (parts : KeyParts) : Type 0 where
   pub attendee : attendee_of key ≡ parts.attendee.now
 
 -- a key compared with the parts of another, by attendee and instance
-abbrev pub within_beside : Key → KeyParts → Ordering
-within_beside key parts =
+abbrev pub tied_beside : Key → KeyParts → Ordering
+tied_beside key parts =
     ordering_then (slice_cmp nat_cmp (attendee_of key) parts.attendee.now)
     (option_cmp moment_cmp (instance_of key) (option_copied parts.instance))
+
+-- the same by the time of the instance, then by these
+abbrev pub within_beside : Key → KeyParts → Ordering
+within_beside key parts =
+    ordering_then (option_cmp time_cmp (instance_of key) (option_copied parts.instance)) (tied_beside key parts)
 
 -- the same by kind of key, then by these
 abbrev pub rest_beside : Key → KeyParts → Ordering

@@ -14,7 +14,7 @@ use itip_todo::Uid;
 use std::marker::Model;
 
 /// The kept items of one UID in the order of their keys: the series item, then instances and then ranges, each by recurrence id, then
-/// answers and then refresh requests, each by attendee and instance.
+/// answers and then refresh requests, each by the day and the second of the instance, attendee and instance.
 #[derive(Debug, Drop)]
 pub struct ItemsOfUid<'a> {
     uid: &'a Uid,
@@ -50,7 +50,7 @@ impl<'a> ItemsOfUid<'a> {
         self.uid
     }
 
-    /// The items, in the order of their keys.
+    /// The items, in the order that [`ItemsOfUid`] tells.
     pub fn as_slice(&self) -> &[&'a Item]
         ensures items { map (λ item. item.now) result.now ≡ self.now.items }
         ensures part { IsUidPart self.now }

@@ -2,8 +2,9 @@
 ghost use Rattle.std.specs.Prelude.{◌≡◌};
 ghost use Rattle.std.specs.Option.{option_copied};
 ghost use Rattle.itip_items.specs.declared.key.Key.TheVariants as key;
-ghost use Rattle.itip_state.specs.Parts.{HasParts, within_beside, rest_beside, parts_cmp};
+ghost use Rattle.itip_state.specs.Parts.{HasParts, tied_beside, within_beside, rest_beside, parts_cmp};
 
+use crate::slot::compare_times;
 use itip_items::Key;
 use itip_moment::Moment;
 use itip_todo::Uid;
@@ -69,7 +70,7 @@ pub(crate) fn compare(key: &Key, parts: &KeyParts<'_>) -> Ordering
     }
 }
 
-/// Compares by kind of key, then by attendee and instance.
+/// Compares by kind of key, day and second of the instance, attendee, and whole instance.
 fn compare_rest(key: &Key, parts: &KeyParts<'_>) -> Ordering
     ensures { result ≡ rest_beside key.now parts.now }
 {
@@ -79,9 +80,19 @@ fn compare_rest(key: &Key, parts: &KeyParts<'_>) -> Ordering
     }
 }
 
-/// Compares by attendee and instance.
+/// Compares by day and second of the instance, attendee, and whole instance.
 fn compare_within(key: &Key, parts: &KeyParts<'_>) -> Ordering
     ensures { result ≡ within_beside key.now parts.now }
+{
+    match compare_times(key.instance(), parts.instance) {
+        Ordering::Equal => compare_tied(key, parts),
+        unequal => unequal,
+    }
+}
+
+/// Compares by attendee and instance.
+fn compare_tied(key: &Key, parts: &KeyParts<'_>) -> Ordering
+    ensures { result ≡ tied_beside key.now parts.now }
 {
     match key.attendee().cmp(parts.attendee) {
         Ordering::Equal => key.instance().cmp(&parts.instance),

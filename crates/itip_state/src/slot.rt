@@ -1,18 +1,20 @@
 //! Where a state holds an item.
 ghost use Rattle.std.specs.Prelude.{◌≡◌, IfOk, refl};
 ghost use Rattle.std.specs.Cmp.{partial_order_from_total, partial_equiv_from_equiv, eq_by_cmp_equiv};
+ghost use Rattle.std.specs.Option.{option_cmp, option_copied};
 ghost use Rattle.std.specs.Ordering.{as_partial_cmp, eq_by_cmp};
-ghost use Rattle.itip_state.specs.Slots.{rest_cmp, slot_cmp, slot_total};
+ghost use Rattle.itip_state.specs.Slots.{time_cmp, rest_cmp, slot_cmp, slot_total};
 
 use itip_items::Key;
 use itip_join::{Exact, NoMemory};
+use itip_moment::Moment;
 use std::alloc::Global;
 use std::cmp::Ordering;
 use std::marker::Model;
 use std::sync::Arc;
 
-/// The key of an item among those of its UID: in order by kind of key, attendee and instance, and only then by UID, which is the same. It
-/// is shared, as a revision is.
+/// The key of an item among those of its UID: in order by kind of key, day and second of the instance, attendee, and whole instance, and
+/// only then by UID, which is the same. It is shared, as a revision is.
 #[derive(Debug, Drop)]
 pub(crate) struct Slot {
     shared: Arc<Key>,
@@ -50,23 +52,40 @@ impl Slot {
     }
 }
 
-/// Compares by kind of key, attendee and instance, and then by UID.
+/// Compares by kind of key, day and second of the instance, attendee, and whole instance, and then by UID.
 ///
-/// The answers of one to-do share their instance and their UID, either of which can be long: so these come last.
+/// Numbers come first. The answers of one to-do of a message share their instance and their UID, either of which can be long: so these come
+/// last.
 pub(crate) fn compare(key: &Key, other: &Key) -> Ordering
     ensures { result ≡ slot_cmp key.now other.now }
 {
     compare_rest(key, other).then_with(|| key.uid().cmp(other.uid()))
 }
 
-/// Compares by kind of key, attendee and instance.
+/// Compares by kind of key, day and second of the instance, attendee, and whole instance.
 fn compare_rest(key: &Key, other: &Key) -> Ordering
     ensures { result ≡ rest_cmp key.now other.now }
 {
     key.rank()
         .cmp(&other.rank())
+        .then_with(|| compare_times(key.instance(), other.instance()))
         .then_with(|| key.attendee().cmp(other.attendee()))
         .then_with(|| key.cmp_instances(other))
+}
+
+/// Compares two instances by day and second. The to-do as a whole comes before them.
+pub(crate) fn compare_times(at: Option<&Moment>, other: Option<&Moment>) -> Ordering
+    ensures { result ≡ option_cmp time_cmp (option_copied at.entry) (option_copied other.entry) }
+{
+    match (at, other) {
+        (Some(at), Some(other)) => at
+            .day()
+            .cmp(&other.day())
+            .then_with(|| at.second().cmp(&other.second())),
+        (Some(_), None) => Ordering::Greater,
+        (None, Some(_)) => Ordering::Less,
+        (None, None) => Ordering::Equal,
+    }
 }
 
 impl PartialEq for Slot {

@@ -3,3 +3,5 @@ pub mod Escaping
 pub mod Reading
 pub mod LineReading
 pub mod InARow
+pub mod Decimals
+mod Fronts

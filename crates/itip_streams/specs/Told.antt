@@ -9,14 +9,15 @@ called named.StandardInput = codes "standard input"
 called (named.File name) = string_bytes name
 called (named.Unreadable name) = string_bytes name
 
-abbrev pub message_of : List ℕ → ℕ → List ℕ
-message_of name message = name ++ codes " message " ++ decimal message
+-- what stands before the number of a message in its place
+abbrev pub front_of : SourceName → List ℕ
+front_of named.StandardInput = codes "message "
+front_of (named.File name) = string_bytes name ++ codes " message "
+front_of (named.Unreadable name) = string_bytes name ++ codes " message "
 
 -- the place of a message, by its number in the source
 abbrev pub place_of : SourceName → ℕ → List ℕ
-place_of named.StandardInput message = codes "message " ++ decimal message
-place_of (named.File name) message = message_of (string_bytes name) message
-place_of (named.Unreadable name) message = message_of (string_bytes name) message
+place_of name message = front_of name ++ decimal message
 
 -- a place, the number of a refusal, and why, if that is given
 abbrev pub refusal_at : List ℕ → ℕ → Option (List ℕ) → List ℕ

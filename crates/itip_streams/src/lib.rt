@@ -8,6 +8,7 @@ mod input;
 mod once;
 mod output;
 mod replacement;
+mod shown_source;
 mod source;
 mod source_name;
 mod terminal_writer;
@@ -19,7 +20,8 @@ pub use input::{MAX_READS, pass_octets, read_line_within, read_octets, read_some
 pub use once::{ReadOnce, WriteOnce};
 pub use output::{write_at_once, write_if_many, write_output};
 pub use replacement::Replacement;
+pub use shown_source::ShownSource;
 pub use source::{Source, sources_of};
-pub use source_name::{SourceName, refused_line, unread_line};
+pub use source_name::{SourceName, unread_line};
 pub use terminal_writer::TerminalWriter;
 pub use visible::{visible_octets, visible_text};

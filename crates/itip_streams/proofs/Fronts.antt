@@ -4,12 +4,10 @@ use Rattle.std.specs.Prelude.{◌&&◌, ◌||◌, ◌==◌, nat_le, nat_lt, code
 use Rattle.std.specs.List.{list_all}
 use Rattle.std.proofs.lemmas.Bool.{and_parts}
 use Rattle.std.proofs.lemmas.Bool.Decides.{nat_tests}
-use Rattle.itip_desk.proofs.FileNumbers.{decimal_all}
-use Rattle.itip_streams.specs.Told.{place_of, refusal_at}
+use Rattle.itip_streams.specs.Told.{front_of, place_of, refusal_at}
 use Rattle.itip_streams.specs.Visible.{escaped, is_second, begins_second, is_hidden, shown_octet, shown_after, visible}
 use Rattle.itip_streams.specs.declared.source_name.SourceName.{SourceName}
-use Rattle.itip_streams.specs.declared.source_name.SourceName.TheVariants as named
-use Rattle.itip_app.specs.Said.{front_of}
+use Rattle.itip_streams.proofs.Decimals.{decimal_all}
 
 -- a character of ASCII that is shown as it is
 abbrev is_plain : ℕ → Bool
@@ -50,20 +48,15 @@ shown_behind before (x ∷ xs) ys plain =
     ap₂ (λ (b : Bool) (t : List ℕ). cond b (escaped x) (x ∷ []) ++ t) same (shown_behind x xs ys plain) ∙
     sym (append_assoc (shown_octet false before x xs) (shown_after false x xs) ys)
 
-place_is : (name : SourceName) (message : ℕ) → place_of name message ≡ front_of name ++ decimal message
-place_is named.StandardInput message = refl
-place_is (named.File name) message = refl
-place_is (named.Unreadable name) message = refl
-
-pub bare_line : (name : SourceName) (message number : ℕ) → message < 2 ^ 64 → number < 2 ^ 64 →
+pub refused_line : (name : SourceName) (message number : ℕ) → message < 2 ^ 64 → number < 2 ^ 64 →
     visible (refusal_at (place_of name message) number None) ≡
     visible (front_of name) ++ (decimal message ++ (codes ": refused " ++ decimal number))
-bare_line name message number small below =
+refused_line name message number small below =
     let rest : List ℕ = codes ": refused " ++ decimal number in
     let digits : (n : ℕ) → n < 2 ^ 64 → list_all is_plain (decimal n) ≡ true =
     decimal_all is_plain (λ d ten. grind (arith, nat_tests)) in
     let plain : list_all is_plain (decimal message ++ rest) ≡ true =
     both_plain (decimal message) rest (digits message small) (both_plain (codes ": refused ") (decimal number) refl (digits number below)) in
     ap visible (append_assoc (place_of name message) (codes ": refused ") (decimal number) ∙
-    ap (λ (t : List ℕ). t ++ rest) (place_is name message) ∙ append_assoc (front_of name) (decimal message) rest) ∙
+    append_assoc (front_of name) (decimal message) rest) ∙
     shown_behind 0 (front_of name) (decimal message ++ rest) plain
