@@ -9,10 +9,16 @@ import subprocess
 import sys
 from collections import namedtuple
 
+sys.dont_write_bytecode = True
+import functions
+
 TOP = os.path.dirname(os.path.dirname(os.path.dirname(os.path.abspath(__file__))))
 # What a proof reads of a crate, and what a program is run on.
 TEXTS = ("src", "specs", "proofs")
 PARTS = (*TEXTS, "args", "stdin", "stdout", "status")
+# The proof of a function: the toolchain asks for files of these names, and no other crate imports one.
+ANSWERS = re.compile(r"proofs/.+/(?:Answers|Invariants)\.antt")
+OF_FUNCTION = re.compile(r"\bRattle\.(\w+)\.proofs\.[^A-Z]")
 # Where programs stand that no landing proves: their text ends in `.rs`, and `crate.txt` has their line.
 UNPROVED = ("bench", "tools", "examples")
 
@@ -102,27 +108,74 @@ def without_comments(path, text):
     return "\n".join(it for it in kept if it)
 
 
-@functools.lru_cache(maxsize=None)
-def sum_of_crate(name):
-    """A sum of what a proof reads of a crate itself, without comments and docs."""
-    made = hashlib.sha256(" ".join(crates()[name].line.split()).encode())
+def texts_of(name):
+    """What a proof reads of a crate itself: the path of each file in the crate, and its text."""
     for part in TEXTS:
         for at, folders, files in os.walk(os.path.join(crates()[name].folder, part)):
             folders.sort()
             for file in sorted(files):
                 path = os.path.join(at, file)
-                inside = os.path.relpath(path, crates()[name].folder)
-                made.update(f"{inside}\0{without_comments(path, text_of(path))}\0".encode())
+                yield os.path.relpath(path, crates()[name].folder), text_of(path)
+
+
+def statements_of(name):
+    """What a proof of another crate may read of a crate: all of it but the bodies of functions and the answers to their goals."""
+    for path, text in texts_of(name):
+        if path.startswith("src/"):
+            yield path, functions.without_bodies(text)
+        elif not ANSWERS.fullmatch(path):
+            yield path, text
+
+
+def imports_of_answers():
+    """The files that import the proof of a function of another crate of this repository."""
+    return [
+        os.path.join(name, path)
+        for name in crates()
+        for path, text in texts_of(name)
+        if any(it in crates() and it != name for it in OF_FUNCTION.findall(text))
+    ]
+
+
+def sum_of_texts(name, texts):
+    """A sum of a crate's line in crates.txt, and of texts without comments and docs."""
+    made = hashlib.sha256(" ".join(crates()[name].line.split()).encode())
+    for path, text in texts:
+        made.update(f"{path}\0{without_comments(path, text)}\0".encode())
+    return made.hexdigest()
+
+
+@functools.lru_cache(maxsize=None)
+def sum_of_crate(name):
+    """A sum of a crate itself."""
+    return sum_of_texts(name, texts_of(name))
+
+
+@functools.lru_cache(maxsize=None)
+def sum_of_statements(name):
+    """A sum of what a proof of another crate may read of a crate."""
+    return sum_of_texts(name, statements_of(name))
+
+
+def sum_over(name, sum_below):
+    """A sum of the toolchain's logic, HANDLES, what `sum_below` says of each crate below it, and the text of the crate."""
+    made = hashlib.sha256(f"{logic()}\n{text_of(TOP, 'HANDLES')}".encode())
+    for it in sorted(below(name)):
+        made.update(f"{it} {sum_below(it)}\n".encode())
+    made.update(f"{name} {sum_of_crate(name)}\n".encode())
     return made.hexdigest()
 
 
 @functools.lru_cache(maxsize=None)
 def sum_of(name):
-    """A sum of all that the proof of a crate rests on: the toolchain's logic, HANDLES, and the texts of the crate and of those below it."""
-    made = hashlib.sha256(f"{logic()}\n{text_of(TOP, 'HANDLES')}".encode())
-    for it in [*sorted(below(name)), name]:
-        made.update(f"{it} {sum_of_crate(it)}\n".encode())
-    return made.hexdigest()
+    """A sum of a crate and of those below it, whole: of what a program is made of, and what all their proofs rest on."""
+    return sum_over(name, sum_of_crate)
+
+
+@functools.lru_cache(maxsize=None)
+def sum_of_proof(name):
+    """A sum of what the proof of a crate alone rests on: its text, and what the crates below it state."""
+    return sum_over(name, sum_of_statements)
 
 
 if __name__ == "__main__":

@@ -2,21 +2,21 @@
 import datetime
 import glob
 import hashlib
-import itertools
 import os
 import re
 import shutil
 from collections import namedtuple
 
+import functions
 import repository
 
 EDITS = os.path.join(repository.TOP, "edits")
 RECORD = os.path.join(EDITS, "RECORD")
 HEAD = """\
 # The wrong bodies of edits/: when each was last refused, a sum of the text that it was tried on, or of one in which only names
-# are others (the edit, its crate and those below without comments and docs, and the toolchain's logic), and how: at a goal of the
-# function that it changes (goal) or of another (caller), since a proof by hand no longer fits (proof), for a lost name (name), or
-# by a limit of the prover (limit).
+# are others (the edit, its crate, and what the crates below it state, without comments and docs, and the toolchain's logic), and
+# how: at a goal of the function that it changes (goal) or of another (caller), since a proof by hand no longer fits (proof), for a
+# lost name (name), or by a limit of the prover (limit).
 """
 # What says little of a contract: such an edit is due until it is refused in another way.
 WEAK = ("name", "limit")
@@ -67,7 +67,7 @@ def edited(edit):
 
 def sum_of(edit):
     """A sum of what the prover's answer to an edit rests on."""
-    return hashlib.sha256(repr((edit.pairs, repository.sum_of(edit.crate))).encode()).hexdigest()[:16]
+    return hashlib.sha256(repr((edit.pairs, repository.sum_of_proof(edit.crate))).encode()).hexdigest()[:16]
 
 
 def read_records():
@@ -108,45 +108,13 @@ def lay_out(tree, edits):
         shutil.copy(os.path.join(EDITS, edit.crate, f"{edit.name}.edit"), folder)
 
 
-FUNCTION = re.compile(r"\s*(?:pub(?:\([^)]*\))? )?(?:const )?(?:unsafe )?fn (\w+)")
-CLAUSE = re.compile(r"\s*(?:requires|ensures|ghost)\b")
-
-# A function of a source file: its lines from 1, its attributes among them, and the first line of its body, behind the contract.
-Function = namedtuple("Function", "name first body last")
-
-
-def attributes_above(lines, number):
-    """How many lines of attributes stand right above a line (from 1)."""
-    return len(list(itertools.takewhile(lambda it: it.lstrip().startswith("#["), reversed(lines[: number - 1]))))
-
-
-def functions_in(text):
-    """The functions of a source file, as the layout of `rt fmt` shows where they end."""
-    lines, found = text.split("\n"), []
-    for first, line in enumerate(lines, 1):
-        named = FUNCTION.match(line)
-        if named:
-            blanks = line[: len(line) - len(line.lstrip())]
-            rest = [(at, it.rstrip()) for at, it in enumerate(lines[first - 1 :], first)]
-            body = next((at for at, it in rest if it.endswith("{") and not CLAUSE.match(it)), None)
-            last = next((at for at, it in rest if body and at > body and it == f"{blanks}}}"), None)
-            if last:
-                found.append(Function(named[1], first - attributes_above(lines, first), body, last))
-    return found
-
-
-def function_at(text, line):
-    """The innermost function in which a line (from 1) of a source file is, or None."""
-    return max((it for it in functions_in(text) if it.first <= line <= it.last), key=lambda it: it.first, default=None)
-
-
 def bodies_of(edit):
     """The files and functions whose bodies an edit changes, and None where it changes something else."""
     found = set()
     for file, old, _ in edit.pairs:
         text = repository.text_of(repository.crates()[edit.crate].folder, file)
         at = text[: text.index(old)].count("\n") + 1 if text.count(old) == 1 else 0
-        inside = function_at(text, at) if file.startswith("src/") else None
+        inside = functions.function_at(text, at) if file.startswith("src/") else None
         found.add((file, inside) if inside and inside.body < at < inside.last else None)
     return found
 
@@ -254,4 +222,5 @@ def judged(edits, output, records):
 def faults(edits, records):
     """What is wrong with edits and their records before any is tried: a line for each."""
     found = [f"{name}: {why}" for name, it in edits.items() for why in [edited(it)[1]] if why]
+    found += [f"{it}: imports the proof of a function of another crate, whose text no record counts" for it in repository.imports_of_answers()]
     return found + [f"{name}: edits/RECORD names it, and there is no such edit" for name in records if name not in edits]

@@ -169,23 +169,23 @@ keeps_beside about before more old new news refusals told keeps beside kept note
 -- ---- what messages tell, and how many they are
 
 pub none_tells : (about : Option (List ℕ)) (kept : List Item) (heard : Heard) → heard.count ≡ 0 → heard.news.items ≡ [] →
-    heard.refusals.items ≡ [] → heard.told.items ≡ [] → Tells about kept [] heard
+    heard.refusals ≡ [] → heard.told.items ≡ [] → Tells about kept [] heard
 none_tells about kept heard none no_news unrefused untold = record {
-  beside = beside_none about kept heard.news.items heard.refusals.items heard.told.items no_news unrefused untold;
+  beside = beside_none about kept heard.news.items heard.refusals heard.told.items no_news unrefused untold;
   count_is = none;
 }
 
 pub both_tell : (about : Option (List ℕ)) (kept : List Item) (before after : List Placed) (one two all : Heard) →
     all.count ≡ one.count + two.count → all.news.items ≡ one.news.items ++ two.news.items →
-    all.refusals.items ≡ one.refusals.items ++ two.refusals.items → all.told.items ≡ one.told.items ++ two.told.items →
+    all.refusals ≡ one.refusals ++ two.refusals → all.told.items ≡ one.told.items ++ two.told.items →
     Tells about kept before one → Tells about kept after two → Tells about kept (before ++ after) all
 both_tell about kept before after one two all count news refusals told first second =
     let long : length (before ++ after) ≡ length before + length after = length-append before after in
     let front : one.count ≡ length before = first.count_is in
     let back : two.count ≡ length after = second.count_is in
     record {
-      beside = beside_both about kept before after one.news.items two.news.items all.news.items one.refusals.items two.refusals.items
-          all.refusals.items one.told.items two.told.items all.told.items news refusals told first.beside second.beside;
+      beside = beside_both about kept before after one.news.items two.news.items all.news.items one.refusals two.refusals
+          all.refusals one.told.items two.told.items all.told.items news refusals told first.beside second.beside;
       count_is = omega (arith, count, long, front, back);
     }
 
@@ -199,13 +199,13 @@ module _ (about : Option (List ℕ)) (kept : List Item) (source next : ℕ) (tex
 
   pub one_tells : (new : Heard) → new.count ≡ next →
       TellBeside about kept (placed_from source 1 texts ++ (record { source = source; message = next; text = text }) ∷ [])
-      new.news.items new.refusals.items new.told.items → Tells about kept (placed_from source 1 (texts ++ text ∷ [])) new
+      new.news.items new.refusals new.told.items → Tells about kept (placed_from source 1 (texts ++ text ∷ [])) new
   one_tells new count beside =
       let long : length (placed_from source 1 (texts ++ text ∷ [])) ≡ length texts + 1 =
       length_placed source 1 (texts ++ text ∷ []) ∙ length-append texts (text ∷ []) in
       let number : next ≡ 1 + length texts = next_number in
       record {
-        beside = subst (λ (ms : List Placed). TellBeside about kept ms new.news.items new.refusals.items new.told.items)
+        beside = subst (λ (ms : List Placed). TellBeside about kept ms new.news.items new.refusals new.told.items)
             (sym (placed_one source 1 next texts text number)) beside;
         count_is = omega (arith, count, long, number);
       }
@@ -213,11 +213,11 @@ module _ (about : Option (List ℕ)) (kept : List Item) (source next : ℕ) (tex
 -- `count` others come before
 pub behind_tell : (about : Option (List ℕ)) (kept : List Item) (source first count : ℕ) (texts : List (List ℕ)) (old new : Heard) →
     new.count ≡ old.count → new.news.items ≡ old.news.items →
-    new.refusals.items ≡ map (later_refusal count) old.refusals.items → new.told.items ≡ map (later_told count) old.told.items →
+    new.refusals ≡ map (later_refusal count) old.refusals → new.told.items ≡ map (later_told count) old.told.items →
     Tells about kept (placed_from source first texts) old → Tells about kept (placed_from source (first + count) texts) new
 behind_tell about kept source first count texts old new same news refusals told tells = record {
-  beside = subst (λ (ns : List Item). TellBeside about kept (placed_from source (first + count) texts) ns new.refusals.items new.told.items)
-      (sym news) (beside_behind about kept source first count texts old.news.items old.refusals.items new.refusals.items old.told.items
+  beside = subst (λ (ns : List Item). TellBeside about kept (placed_from source (first + count) texts) ns new.refusals new.told.items)
+      (sym news) (beside_behind about kept source first count texts old.news.items old.refusals new.refusals old.told.items
       new.told.items refusals told tells.beside);
   count_is = same ∙ tells.count_is ∙ length_placed source first texts ∙ sym (length_placed source (first + count) texts);
 }

@@ -64,41 +64,76 @@ places_read causes octets packed = record {
   fit = packed.fit;
 }
 
--- the numbers with one refused message more
-places_more : (refusals : List RefusedMessage) (refused : RefusedMessage) →
-    all_places refusals ++ places refused ≡ all_places (refusals ++ refused ∷ [])
-places_more refusals refused =
-    ap (λ (ns : List ℕ). all_places refusals ++ ns) (sym (append-nil (places refused))) ∙ sym (all_places-append refusals (refused ∷ []))
+-- others are read back behind them
+pub more_read : (causes : List MessageCause) (octets new : List ℕ) (more : List RefusedMessage) →
+    Spells new (all_places (unpacked causes (numbers octets)) ++ all_places more) →
+    unpacked (causes ++ map (λ r. r.refusal.cause) more) (numbers new) ≡ unpacked causes (numbers octets) ++ more
+more_read causes octets new more spells =
+    let old : List RefusedMessage = unpacked causes (numbers octets) in
+    let all : List RefusedMessage = old ++ more in
+    let read : numbers new ≡ all_places all = have new (all_places old ++ all_places more) spells ∙ sym (all_places-append old more) in
+    let of_causes : causes ++ map (λ r. r.refusal.cause) more ≡ map (λ r. r.refusal.cause) all =
+    ap (λ (cs : List MessageCause). cs ++ map (λ r. r.refusal.cause) more) (sym (causes_of causes (numbers octets))) ∙
+    sym (map-append (λ (r : RefusedMessage). r.refusal.cause) old more) in
+    ap (λ (cs : List MessageCause). unpacked cs (numbers new)) of_causes ∙
+    ap (unpacked (map (λ r. r.refusal.cause) all)) read ∙ all_read_back all
 
--- it is read back behind the others
+fit_more : (refusals more : List RefusedMessage) → AllByRecursion Fits refusals → AllByRecursion Fits more →
+    AllByRecursion Fits (refusals ++ more)
+fit_more [] more fit fits = fits
+fit_more (first ∷ refusals) more fit fits = (fit.0, fit_more refusals more fit.1 fits)
+
+pub more_packed : (causes : List MessageCause) (octets new : List ℕ) (more : List RefusedMessage) → ArePacked causes octets →
+    AllByRecursion Fits more → Spells new (all_places (unpacked causes (numbers octets)) ++ all_places more) →
+    ArePacked (causes ++ map (λ r. r.refusal.cause) more) new
+more_packed causes octets new more packed fits spells =
+    let old : List RefusedMessage = unpacked causes (numbers octets) in
+    let all : old ++ more ≡ unpacked (causes ++ map (λ r. r.refusal.cause) more) (numbers new) =
+    sym (more_read causes octets new more spells) in record {
+      spelled = subst (λ (rs : List RefusedMessage). Spells new (all_places rs)) all
+          (subst (Spells new) (sym (all_places-append old more)) spells);
+      fit = subst (AllByRecursion Fits) all (fit_more old more packed.fit fits);
+    }
+
+-- and so is one
+spelled_one : (before : List ℕ) (new : List ℕ) (refused : RefusedMessage) → Spells new (before ++ places refused) →
+    Spells new (before ++ all_places (refused ∷ []))
+spelled_one before new refused spells =
+    subst (Spells new) (ap (λ (ns : List ℕ). before ++ ns) (sym (append-nil (places refused)))) spells
+
 pub one_read : (causes : List MessageCause) (octets new : List ℕ) (refused : RefusedMessage) →
     Spells new (all_places (unpacked causes (numbers octets)) ++ places refused) →
     unpacked (causes ++ refused.refusal.cause ∷ []) (numbers new) ≡ unpacked causes (numbers octets) ++ refused ∷ []
 one_read causes octets new refused spells =
-    let old : List RefusedMessage = unpacked causes (numbers octets) in
-    let all : List RefusedMessage = old ++ refused ∷ [] in
-    let read : numbers new ≡ all_places all = have new (all_places old ++ places refused) spells ∙ places_more old refused in
-    let of_causes : causes ++ refused.refusal.cause ∷ [] ≡ map (λ r. r.refusal.cause) all =
-    ap (λ (cs : List MessageCause). cs ++ refused.refusal.cause ∷ []) (sym (causes_of causes (numbers octets))) ∙
-    sym (map-append (λ (r : RefusedMessage). r.refusal.cause) old (refused ∷ [])) in
-    ap (λ (cs : List MessageCause). unpacked cs (numbers new)) of_causes ∙
-    ap (unpacked (map (λ r. r.refusal.cause) all)) read ∙ all_read_back all
-
-fit_more : (refusals : List RefusedMessage) (refused : RefusedMessage) → AllByRecursion Fits refusals → Fits refused →
-    AllByRecursion Fits (refusals ++ refused ∷ [])
-fit_more [] refused fit one = (one, tt)
-fit_more (first ∷ refusals) refused fit one = (fit.0, fit_more refusals refused fit.1 one)
+    more_read causes octets new (refused ∷ []) (spelled_one (all_places (unpacked causes (numbers octets))) new refused spells)
 
 pub one_packed : (causes : List MessageCause) (octets new : List ℕ) (refused : RefusedMessage) → ArePacked causes octets → Fits refused →
     Spells new (all_places (unpacked causes (numbers octets)) ++ places refused) → ArePacked (causes ++ refused.refusal.cause ∷ []) new
 one_packed causes octets new refused packed fits spells =
-    let old : List RefusedMessage = unpacked causes (numbers octets) in
-    let all : old ++ refused ∷ [] ≡ unpacked (causes ++ refused.refusal.cause ∷ []) (numbers new) =
-    sym (one_read causes octets new refused spells) in record {
-      spelled = subst (λ (rs : List RefusedMessage). Spells new (all_places rs)) all
-          (subst (Spells new) (places_more old refused) spells);
-      fit = subst (AllByRecursion Fits) all (fit_more old refused packed.fit fits);
-    }
+    more_packed causes octets new (refused ∷ []) packed (fits, tt)
+    (spelled_one (all_places (unpacked causes (numbers octets))) new refused spells)
+
+spelled_both : (first second ns ms : List ℕ) → Spells first ns → Spells second ms → Spells (first ++ second) (ns ++ ms)
+spelled_both first second ns ms one two more =
+    ap numbers (append_assoc first second more) ∙ one (second ++ more) ∙ ap (λ (rest : List ℕ). ns ++ rest) (two more) ∙
+    sym (append_assoc ns ms (numbers more))
+
+-- two lists in a row are read back, one behind the other
+pub both_read : (causes others : List MessageCause) (octets more : List ℕ) → ArePacked causes octets → ArePacked others more →
+    unpacked (causes ++ others) (numbers (octets ++ more)) ≡ unpacked causes (numbers octets) ++ unpacked others (numbers more)
+both_read causes others octets more one two =
+    let behind : List RefusedMessage = unpacked others (numbers more) in
+    ap (λ (cs : List MessageCause). unpacked (causes ++ cs) (numbers (octets ++ more))) (sym (causes_of others (numbers more))) ∙
+    more_read causes octets (octets ++ more) behind
+    (spelled_both octets more (all_places (unpacked causes (numbers octets))) (all_places behind) one.spelled two.spelled)
+
+pub both_packed : (causes others : List MessageCause) (octets more : List ℕ) → ArePacked causes octets → ArePacked others more →
+    ArePacked (causes ++ others) (octets ++ more)
+both_packed causes others octets more one two =
+    let behind : List RefusedMessage = unpacked others (numbers more) in
+    subst (λ (cs : List MessageCause). ArePacked (causes ++ cs) (octets ++ more)) (causes_of others (numbers more))
+    (more_packed causes octets (octets ++ more) behind one two.fit
+    (spelled_both octets more (all_places (unpacked causes (numbers octets))) (all_places behind) one.spelled two.spelled))
 
 -- where causes are left, the numbers of one refused message more are
 pub one_left : (all causes : List MessageCause) (cause : MessageCause) (ns : List ℕ) → all ≡ cause ∷ causes → ArePlaces all ns →

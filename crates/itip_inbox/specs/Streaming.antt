@@ -30,7 +30,7 @@ pub record TellBeside (about : Option (List ℕ)) (kept : List Item) (messages :
 
 -- This is what messages tell beside a set of kept items, and how many they are.
 pub record Tells (about : Option (List ℕ)) (kept : List Item) (messages : List Placed) (heard : Heard) : Type 0 where
-  pub beside : TellBeside about kept messages heard.news.items heard.refusals.items heard.told.items
+  pub beside : TellBeside about kept messages heard.news.items heard.refusals heard.told.items
   pub count_is : heard.count ≡ length messages
 
 -- the messages of the sources that wait to be heard

@@ -282,7 +282,7 @@ impl OpenInbox {
         self.heard = self.heard.saturating_add(count);
         self.state.hear(rt, news.as_slice())?;
         self.state.let_go_of(rt, news);
-        self.refusals.push_all(refusals.as_slice())?;
+        self.refusals.append(refusals)?;
         self.told.append(&mut told)?;
         Ok(())
     }

@@ -70,14 +70,24 @@ impl Refusals {
         }
     }
 
-    /// Adds refused messages one after another. If an allocation fails, a part of them may have been added.
-    pub(crate) fn push_all(&mut self, refusals: &[RefusedMessage]) -> Result<(), AllocError>
-        ensures { OnOk result (self.new ≡ self.old ++ refusals.now) }
+    /// Adds others behind these. If an allocation fails, nothing has changed.
+    pub(crate) fn append(&mut self, others: Refusals) -> Result<(), AllocError>
+        ensures adds { OnOk result (self.new ≡ self.old ++ others) }
+        ensures unchanged { OnErr result (self.new ≡ self.old) }
     {
-        for refused in refusals {
-            self.push(*refused)?;
+        let Refusals {
+            mut causes,
+            mut places,
+        } = others;
+        let before = self.causes.len();
+        self.causes.append(&mut causes)?;
+        match self.places.append(&mut places) {
+            Ok(()) => Ok(()),
+            Err(failed) => {
+                self.causes.truncate(before);
+                Err(failed)
+            }
         }
-        Ok(())
     }
 
     /// The refused messages one after another.

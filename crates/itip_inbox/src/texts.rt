@@ -11,6 +11,7 @@ ghost use Rattle.itip_inbox.specs.Streaming.{Tells};
 
 use crate::counts::count_more;
 use crate::numbered::Numbered;
+use crate::refusals::Refusals;
 use crate::refused::RefusedMessage;
 use crate::shards::Shards;
 use itip_desk::Batch;
@@ -31,7 +32,7 @@ pub(crate) struct Heard {
     /// The items of theirs that are news.
     pub(crate) news: Vec<Numbered>,
     /// The refused messages, in their order.
-    pub(crate) refusals: Vec<RefusedMessage>,
+    pub(crate) refusals: Refusals,
     /// Their items of the followed UID, in their order.
     pub(crate) told: Vec<ToldItem>,
 }
@@ -83,7 +84,7 @@ impl Heard {
         Heard {
             count: 0,
             news: Vec::new(alloc),
-            refusals: Vec::new(alloc),
+            refusals: Refusals::none(alloc),
             told: Vec::new(alloc),
         }
     }
@@ -97,13 +98,13 @@ impl Heard {
         let Heard {
             count,
             mut news,
-            mut refusals,
+            refusals,
             mut told,
         } = others;
         let sum = count_more(self.count, count)?;
         self.count = sum;
         self.news.append(&mut news)?;
-        self.refusals.append(&mut refusals)?;
+        self.refusals.append(refusals)?;
         self.told.append(&mut told)?;
         Ok(())
     }
@@ -117,7 +118,7 @@ impl Heard {
         ensures count { OnOk result (self.new.count ≡ self.old.count) }
         ensures fault { IfErr result (λ fault. fault ≢ StreamFault.Write) }
     {
-        let refusals = refusals_behind(alloc, self.refusals.as_slice(), count)?;
+        let refusals = refusals_behind(alloc, &self.refusals, count)?;
         self.refusals = refusals;
         let told = mem::replace(&mut self.told, Vec::new(alloc));
         let later = told_behind(alloc, told, count)?;
@@ -163,16 +164,12 @@ impl Heard {
 }
 
 /// Refused messages, numbered anew after `count` others.
-fn refusals_behind(
-    alloc: Global,
-    refusals: &[RefusedMessage],
-    count: u64,
-) -> Result<Vec<RefusedMessage>, StreamFault>
-    ensures later { IfOk result (λ later. later.items ≡ map (later_refusal count) refusals.now) }
+fn refusals_behind(alloc: Global, refusals: &Refusals, count: u64) -> Result<Refusals, StreamFault>
+    ensures later { IfOk result (λ later. later ≡ map (later_refusal count) refusals.now) }
     ensures fault { IfErr result (λ fault. fault ≢ StreamFault.Write) }
 {
-    let mut later = Vec::new(alloc);
-    for refused in refusals {
+    let mut later = Refusals::none(alloc);
+    for refused in refusals.iter() {
         let message = count_more(refused.message, count)?;
         later.push(RefusedMessage {
             source: refused.source,

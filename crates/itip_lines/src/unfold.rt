@@ -41,6 +41,7 @@ fn find_lf(text: &[u8]) -> Option<usize>
     match text {
         [b'\n', ..] => Some(0),
         [_, b'\n', ..] => Some(1),
+        [_, _, b'\n', ..] => Some(2),
         _ => memchr(b'\n', text),
     }
 }
