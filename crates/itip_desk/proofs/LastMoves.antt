@@ -4,7 +4,6 @@ use Rattle.std.proofs.Common.{◌∷◌, ◌++◌, append_assoc, append-nil, Opt
 use Rattle.std.specs.Prelude.{cond, is_some}
 use Rattle.std.specs.List.{Contains, All, list_any}
 use Rattle.std.specs.Ordering.{is_eq}
-use Rattle.std.specs.BTreeSet.{BTreeSet, Updates}
 use Rattle.std.proofs.lemmas.Bool.{eq-eqb, eqb-true}
 use Rattle.std.proofs.lemmas.Cmp.{nat_list_cmp_total}
 use Rattle.std.proofs.lemmas.List.Elements.{All-contains}
@@ -12,8 +11,8 @@ use Rattle.std.proofs.lemmas.Map.Lookups.{exact_bytes}
 use Rattle.itip_state.proofs.Lookups.{one_key, itself}
 use Rattle.itip_state.proofs.Members.{by_bool, none_in, cons_cases, cons_first, cons_later}
 use Rattle.itip_desk.specs.FileReading.{ReachTick}
-use Rattle.itip_desk.specs.MovedSince.{tick_at, move_cmp, has_move, AreInOrder, AreTicks, AreMovesTo, CarriesLast, last_move}
-use Rattle.itip_desk.proofs.Ticking.{Carried, uid_cmp, move_put}
+use Rattle.itip_desk.specs.MovedSince.{tick_at, AreTicks, AreMovesTo, CarriesLast, last_move}
+use Rattle.itip_desk.proofs.Ticking.{Carried, uid_cmp}
 
 one_uid : (q u : List ℕ) → is_eq (uid_cmp q u) ≡ true → q ≡ u
 one_uid q u = one_key nat_list_cmp_total exact_bytes q u
@@ -86,24 +85,6 @@ pub one_put : (moves : Carried) (u : List ℕ) (tick : ℕ) (was now : Carried) 
     ((q : List ℕ) → tick_at now q ≡ cond (is_eq (uid_cmp u q)) (Some tick) (tick_at was q)) → CarriesLast (moves ++ (u, tick) ∷ []) now
 one_put moves u tick was now carries put uid =
     put uid ∙ ap (λ (o : Option ℕ). cond (is_eq (uid_cmp u uid)) (Some tick) o) (carries uid) ∙ sym (last_more moves u tick uid)
-
--- each is in order
-pub put_in_order : (u : List ℕ) (tick : ℕ) (was now : Carried) (order order' : BTreeSet (ℕ × List ℕ)) → AreInOrder was order.keys →
-    Updates move_cmp order order' (tick, u) true →
-    ((q : List ℕ) → tick_at now q ≡ cond (is_eq (uid_cmp u q)) (Some tick) (tick_at was q)) → AreInOrder now order'.keys
-put_in_order u tick was now order order' in_order updates put q t there above =
-    by_bool (is_eq (uid_cmp u q)) (has_move order'.keys (t, q) ≡ true)
-    (λ same.
-    let ticks : tick ≡ t = some_same tick t (sym (put q ∙ ap (λ (b : Bool). cond b (Some tick) (tick_at was q)) same) ∙ there) in
-    subst (λ (n : ℕ). has_move order'.keys (n, q) ≡ true) ticks
-    (subst (λ (v : List ℕ). has_move order'.keys (tick, v) ≡ true) (one_uid u q same) updates.1))
-    (λ apart.
-    move_put order order' (tick, u) updates (t, q)
-    (in_order q t (sym (put q ∙ ap (λ (b : Bool). cond b (Some tick) (tick_at was q)) apart) ∙ there) above))
-
-pub none_in_order : (carried : Carried) (keys : List (ℕ × List ℕ)) → carried ≡ [] → AreInOrder carried keys
-none_in_order carried keys none q t there above =
-    absurd (none_some t (sym (ap (λ (es : Carried). tick_at es q) none) ∙ there))
 
 -- moves at ticks above 0 leave no place that carries nothing
 pub last_ticks : (moves carried : Carried) → All (λ (move : List ℕ × ℕ). 0 < move.1) moves → CarriesLast moves carried → AreTicks carried

@@ -1,34 +1,28 @@
 -- The UIDs that moved, and the ticks that they carry.
-use Rattle.std.proofs.Common.{◌≡◌, ◌≢◌, ℕ, ◌<◌, ◌≤◌, List, [], ◌∷◌, ◌++◌, ◌↔◌, ◌⊎◌, ◌||◌, ◌&&◌, inl, inr, refl, sym, ap, subst, ◌∙◌, Bool, true, false}
-use Rattle.std.proofs.Common.{Some, None, arith, ◌+◌, length, take, get_or}
+use Rattle.std.proofs.Common.{◌≡◌, ℕ, ◌<◌, ◌≤◌, List, [], ◌∷◌, ◌++◌, ◌↔◌, ◌⊎◌, ◌||◌, inl, inr, refl, sym, ap, subst, ◌∙◌, Bool, true, false}
+use Rattle.std.proofs.Common.{Some, None, arith, ◌+◌, ◌-◌, length, take, get_or}
 use Rattle.std.specs.Prelude.{cond, is_some}
 use Rattle.std.specs.List.{Contains}
-use Rattle.std.specs.List.Sorted.{IsStrictlySortedBy}
+use Rattle.std.specs.List.Sorted.{IsStrictlySortedBy, IsNonDecreasingBy}
 use Rattle.std.specs.Map.{keys_of}
-use Rattle.std.specs.Ordering.{nat_cmp, is_eq, is_le, ordering_then}
-use Rattle.std.specs.Cmp.{IsTotalOrder}
+use Rattle.std.specs.Ordering.{nat_cmp, is_eq}
 use Rattle.std.specs.Cmp.Lexicographic.{slice_cmp}
-use Rattle.std.specs.BTreeMap.Range.{range_contains}
-use Rattle.std.specs.BTreeSet.{BTreeSet, Updates, keys_between}
-use Rattle.std.specs.declared.ops.Bound.TheVariants.{Included, Unbounded}
 use Rattle.std.specs.declared.cmp.Ordering.{Ordering}
-use Rattle.std.specs.declared.cmp.Ordering.TheVariants.{Less, Equal, Greater}
-use Rattle.std.proofs.lemmas.Cmp.{ranked, nat_list_cmp_total, nat_cmp_total, then_total, on_total}
+use Rattle.std.proofs.lemmas.Cmp.{nat_list_cmp_total}
 use Rattle.std.proofs.lemmas.List.{take_more}
 use Rattle.std.proofs.lemmas.List.Folds.{list_any-append}
-use Rattle.std.proofs.lemmas.Map.Lookups.{CmpEqualImpliesEq, exact_bytes, exact_unsigned, exact_pairs}
-use Rattle.std.proofs.lemmas.Map.Views.{Contains-from_any}
+use Rattle.std.proofs.lemmas.List.Sorted.{IsNonDecreasingBy-push}
+use Rattle.std.proofs.lemmas.Map.Lookups.{exact_bytes}
 use Rattle.itip_join.specs.KeyByKey.{entries_from_values}
 use Rattle.itip_items.specs.declared.item.Item.{Item}
 use Rattle.itip_items.specs.KeyParts.{uid_of}
 use Rattle.itip_state.specs.Kept.{AreMoved, KeepSame, Moves, ArePartOf, IsItemsOf}
-use Rattle.std.proofs.lemmas.List.Elements.{Contains-append_left, Contains-push, Contains-push_cases}
+use Rattle.std.proofs.lemmas.List.Elements.{Contains-append_left, Contains-get_or, Contains-push, Contains-push_cases}
 use Rattle.itip_state.proofs.Members.{by_bool, none_in, cons_cases}
 use Rattle.itip_state.proofs.Lookups.{one_key, itself}
 use Rattle.itip_state.proofs.Listing.{listed_in, in_listed}
-use Rattle.itip_view.proofs.Showing.{into_filter}
 use Rattle.itip_desk.specs.Desk.{Shown, CarriesAfter, IsCarriedOn, IsDeltaOf}
-use Rattle.itip_desk.specs.MovedSince.{is_listed, tick_at, move_cmp, has_move, AreInOrder, AreTicks, AreUpTo, HavePlaces}
+use Rattle.itip_desk.specs.MovedSince.{is_listed, tick_at, move_tick, AreInOrder, AreTicks, AreUpTo, HavePlaces}
 use Rattle.itip_desk.proofs.Steps.{CarryStep}
 
 abbrev pub uid_cmp : List ℕ → List ℕ → Ordering
@@ -37,7 +31,7 @@ uid_cmp = slice_cmp nat_cmp
 abbrev pub Carried : Type 0
 Carried = List (List ℕ × ℕ)
 
-some_same : (t u : ℕ) → Some t ≡ Some u → t ≡ u
+pub some_same : (t u : ℕ) → Some t ≡ Some u → t ≡ u
 some_same t u e = cc
 
 none_some : (t : ℕ) → None ≡ Some t → ⊥
@@ -80,25 +74,24 @@ pub taken_more : (us : List (List ℕ)) (i : ℕ) (u : List ℕ) → i < length 
 taken_more us i u below is = take_more us i u below ∙ ap (λ x. take i us ++ x ∷ []) (sym is)
 
 -- ---- the moves in order
-pub move_total : IsTotalOrder move_cmp
-move_total = then_total (on_total (λ (m : ℕ × List ℕ). m.0) nat_cmp_total) (on_total (λ (m : ℕ × List ℕ). m.1) nat_list_cmp_total)
+-- a move at a tick that none is above is added behind all
+module _ (tick : ℕ) (u : List ℕ) (order order' : List (ℕ × List ℕ)) (put : order' ≡ order ++ (tick, u) ∷ [])
+    (most : (move : ℕ × List ℕ) → Contains order move → move.0 ≤ tick) where
+  pub put_by_tick : IsNonDecreasingBy move_tick order → IsNonDecreasingBy move_tick order'
+  put_by_tick sorted = subst (IsNonDecreasingBy move_tick) (sym put) (IsNonDecreasingBy-push move_tick order (tick, u) sorted
+      (λ d some. most (get_or order (length order - 1) d) (Contains-get_or order (length order - 1) d (omega (arith, some)))))
 
-pub move_exact : CmpEqualImpliesEq move_cmp
-move_exact = exact_pairs nat_cmp uid_cmp exact_unsigned exact_bytes
+  pub put_most : (move : ℕ × List ℕ) → Contains order' move → move.0 ≤ tick
+  put_most move h = elim (Contains-push_cases order (tick, u) move (subst (λ (ms : List (ℕ × List ℕ)). Contains ms move) put h)) [
+    | inl before ↦ most move before
+    | inr same ↦ let is : tick ≡ move.0 = ap move_tick same in omega (arith, is)
+  ]
 
-true_either : (b : Bool) → cond b true true ≡ true
-true_either true = refl
-true_either false = refl
+  pub put_keeps : (move : ℕ × List ℕ) → Contains order move → Contains order' move
+  put_keeps move h = subst (λ (ms : List (ℕ × List ℕ)). Contains ms move) (sym put) (Contains-append_left order ((tick, u) ∷ []) move h)
 
-pub move_put : (s n : BTreeSet (ℕ × List ℕ)) (k : ℕ × List ℕ) → Updates move_cmp s n k true → (e : ℕ × List ℕ) →
-    has_move s.keys e ≡ true → has_move n.keys e ≡ true
-move_put s n k updates e h = updates.0 e ∙ ap (cond (is_eq (move_cmp k e)) true) h ∙ true_either (is_eq (move_cmp k e))
-
-pub move_kept : (s n : BTreeSet (ℕ × List ℕ)) (k : ℕ × List ℕ) → Updates move_cmp s n k false → (e : ℕ × List ℕ) → (k ≡ e → ⊥) →
-    has_move s.keys e ≡ true → has_move n.keys e ≡ true
-move_kept s n k updates e apart h = by_bool (is_eq (move_cmp k e)) (has_move n.keys e ≡ true)
-    (λ same. absurd (apart (one_key move_total move_exact k e same)))
-    (λ other. updates.0 e ∙ ap (λ b. cond b false (has_move s.keys e)) other ∙ h)
+  pub put_there : Contains order' (tick, u)
+  put_there = subst (λ (ms : List (ℕ × List ℕ)). Contains ms (tick, u)) (sym put) (Contains-push order (tick, u))
 
 -- ---- places
 -- a place is made
@@ -127,10 +120,12 @@ module _ (all : List (List ℕ)) (u : List ℕ) (was now next : Carried) (listed
         | inr place ↦ inr (place.0, place.1, stays ∙ place.2)
       ])
 
-  pub places_stay : (q : List ℕ) → is_some (tick_at now q) ≡ true → is_some (tick_at next q) ≡ true
-  places_stay q h = by_bool (is_eq (uid_cmp u q)) (is_some (tick_at next q) ≡ true)
-      (λ same. ap is_some (put q ∙ ap (λ b. cond b (Some 0) (tick_at now q)) same))
-      (λ apart. ap is_some (put q ∙ ap (λ b. cond b (Some 0) (tick_at now q)) apart) ∙ h)
+pub places_stay : (u : List ℕ) (now next : Carried) →
+    ((q : List ℕ) → tick_at next q ≡ cond (is_eq (uid_cmp u q)) (Some 0) (tick_at now q)) →
+    (q : List ℕ) → is_some (tick_at now q) ≡ true → is_some (tick_at next q) ≡ true
+places_stay u now next put q h = by_bool (is_eq (uid_cmp u q)) (is_some (tick_at next q) ≡ true)
+    (λ same. ap is_some (put q ∙ ap (λ b. cond b (Some 0) (tick_at now q)) same))
+    (λ apart. ap is_some (put q ∙ ap (λ b. cond b (Some 0) (tick_at now q)) apart) ∙ h)
 
 -- one is removed
 pub fewer_one : (u : List ℕ) (was now next : Carried) →
@@ -206,10 +201,10 @@ places_out all was now sorted sorted_now left = entries_from_values nat_list_cmp
 pub record AreMarked (tick : ℕ) (all uids : List (List ℕ)) (was now : Carried) (order : List (ℕ × List ℕ)) : Type 0 where
   pub at : (q : List ℕ) → tick_at now q ≡ cond (is_listed uids q) (Some tick) (tick_at was q)
   pub in_order : AreInOrder now order
-  pub ready : (q : List ℕ) → is_listed all q ≡ true → has_move order (tick, q) ≡ true
+  pub ready : (q : List ℕ) → is_listed all q ≡ true → Contains order (tick, q)
 
 pub none_marked : (tick : ℕ) (all : List (List ℕ)) (was now : Carried) (order : List (ℕ × List ℕ)) → now ≡ was → AreInOrder now order →
-    ((q : List ℕ) → is_listed all q ≡ true → has_move order (tick, q) ≡ true) → AreMarked tick all [] was now order
+    ((q : List ℕ) → is_listed all q ≡ true → Contains order (tick, q)) → AreMarked tick all [] was now order
 none_marked tick all was now order same in_order ready =
     record { at = λ q. ap (λ es. tick_at es q) same; in_order = in_order; ready = ready }
 
@@ -219,30 +214,24 @@ marked_there tick all us was now order marked q h = by_bool (is_listed us q) (is
     (λ k. ap is_some (marked.at q ∙ ap (λ b. cond b (Some tick) (tick_at was q)) k))
     (λ k. ap is_some (marked.at q ∙ ap (λ b. cond b (Some tick) (tick_at was q)) k) ∙ h)
 
-module _ (tick : ℕ) (all us now_us : List (List ℕ)) (u : List ℕ) (was now next : Carried) (order order' : List (ℕ × List ℕ))
+module _ (tick : ℕ) (all us now_us : List (List ℕ)) (u : List ℕ) (was now next : Carried) (order : List (ℕ × List ℕ))
     (more : now_us ≡ us ++ u ∷ []) (listed : is_listed all u ≡ true) (marked : AreMarked tick all us was now order)
-    (put : (q : List ℕ) → tick_at next q ≡ cond (is_eq (uid_cmp u q)) (Some tick) (tick_at now q))
-    (kept : (move : ℕ × List ℕ) → has_move order move ≡ true → (move.1 ≢ u) ⊎ (move.0 ≡ tick) → has_move order' move ≡ true) where
-  pub one_marked : AreMarked tick all now_us was next order'
+    (put : (q : List ℕ) → tick_at next q ≡ cond (is_eq (uid_cmp u q)) (Some tick) (tick_at now q)) where
+  pub one_marked : AreMarked tick all now_us was next order
   one_marked = record {
     at = λ q. by_bool (is_eq (uid_cmp u q)) (tick_at next q ≡ cond (is_listed now_us q) (Some tick) (tick_at was q))
         (λ same. put q ∙ ap (λ b. cond b (Some tick) (tick_at now q)) same ∙
         sym (ap (λ b. cond b (Some tick) (tick_at was q)) (listed_here us now_us u q more same)))
         (λ apart. put q ∙ ap (λ b. cond b (Some tick) (tick_at now q)) apart ∙ marked.at q ∙
         sym (ap (λ b. cond b (Some tick) (tick_at was q)) (listed_before us now_us u q more apart)));
-    in_order = λ q t there above. by_bool (is_eq (uid_cmp u q)) (has_move order' (t, q) ≡ true)
+    in_order = λ q t there above. by_bool (is_eq (uid_cmp u q)) (Contains order (t, q))
         (λ same.
         let t_is : tick ≡ t = some_same tick t (sym (put q ∙ ap (λ b. cond b (Some tick) (tick_at now q)) same) ∙ there) in
-        kept (t, q) (subst (λ (n : ℕ). has_move order (n, q) ≡ true) t_is
-        (subst (λ (v : List ℕ). has_move order (tick, v) ≡ true) (one_uid u q same) (marked.ready u listed))) (inr (sym t_is)))
-        (λ apart.
-        let before : tick_at now q ≡ Some t = sym (put q ∙ ap (λ b. cond b (Some tick) (tick_at now q)) apart) ∙ there in
-        kept (t, q) (marked.in_order q t before above) (inl (λ same. differ (sym (own_uid u) ∙ ap (λ v. is_eq (uid_cmp u v)) (sym same) ∙ apart))));
-    ready = λ q h. kept (tick, q) (marked.ready q h) (inr refl);
+        subst (λ (n : ℕ). Contains order (n, q)) t_is
+        (subst (λ (v : List ℕ). Contains order (tick, v)) (one_uid u q same) (marked.ready u listed)))
+        (λ apart. marked.in_order q t (sym (put q ∙ ap (λ b. cond b (Some tick) (tick_at now q)) apart) ∙ there) above);
+    ready = marked.ready;
   }
-    where
-      differ : true ≡ false → ⊥
-      differ e = cc
 
 -- ---- what moved after a tick
 -- of the moves in order, those gone through were found, if a UID carries them; the others are to come
@@ -250,25 +239,13 @@ pub record FoundSoFar (carried : Carried) (since : ℕ) (uids : List (List ℕ))
   pub among : (uid : List ℕ) → Contains uids uid → CarriesAfter carried since uid
   pub coming : (uid : List ℕ) (tick : ℕ) → tick_at carried uid ≡ Some tick → since < tick → Contains uids uid ⊎ Contains rest (tick, uid)
 
-from_tick : (r : Ordering) (next tick : ℕ) (uid : List ℕ) → r ≡ nat_cmp next tick → next ≤ tick →
-    (is_le (ordering_then r (uid_cmp [] uid)) && true) ≡ true
-from_tick Less next tick uid is below = refl
-from_tick Equal next tick [] is below = refl
-from_tick Equal next tick (x ∷ xs) is below = refl
-from_tick Greater next tick uid is below = absurd (let over : tick < next = ranked next tick Greater is in omega (arith, over, below))
-
 -- all that is above the tick is to come
-pub found_first : (carried : Carried) (order : BTreeSet (ℕ × List ℕ)) (since next : ℕ) (start : List ℕ) (uids : List (List ℕ))
-    (rest : List (ℕ × List ℕ)) → AreInOrder carried order.keys → start ≡ [] → next ≤ since + 1 → uids ≡ [] →
-    rest ≡ keys_between move_cmp (Included (next, start)) Unbounded order → FoundSoFar carried since uids rest
-found_first carried order since next start uids rest in_order none low empty is = record {
+pub found_first : (carried : Carried) (order : List (ℕ × List ℕ)) (since : ℕ) (uids : List (List ℕ)) (rest : List (ℕ × List ℕ)) →
+    AreInOrder carried order → uids ≡ [] →
+    ((move : ℕ × List ℕ) → Contains order move → since < move.0 → Contains rest move) → FoundSoFar carried since uids rest
+found_first carried order since uids rest in_order empty behind = record {
   among = λ uid h. absurd (none_in uid (subst (λ (us : List (List ℕ)). Contains us uid) empty h));
-  coming = λ uid tick at above. inr (subst (λ (ms : List (ℕ × List ℕ)). Contains ms (tick, uid)) (sym is)
-      (into_filter (range_contains move_cmp (Included (next, start)) Unbounded) order.keys (tick, uid)
-      (Contains-from_any {eq = λ a b. is_eq (move_cmp a b)} (one_key move_total move_exact) (tick, uid) order.keys
-      (in_order uid tick at (omega (arith, above))))
-      (subst (λ (u : List ℕ). range_contains move_cmp (Included (next, u)) Unbounded (tick, uid) ≡ true) (sym none)
-      (from_tick (nat_cmp next tick) next tick uid refl (omega (arith, low, above))))));
+  coming = λ uid tick at above. inr (behind (tick, uid) (in_order uid tick at (omega (arith, above))) above);
 }
 
 module _ (carried : Carried) (since : ℕ) (uids : List (List ℕ)) (before rest : List (ℕ × List ℕ)) (move : ℕ × List ℕ)

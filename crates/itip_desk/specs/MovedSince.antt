@@ -1,19 +1,17 @@
 -- The UIDs that moved, each with the tick that it carries (our own form).
 use Rattle.std.specs.Prelude.{◌≡◌, ◌<◌, ◌≤◌, ◌⊎◌, ℕ, List, [], ◌∷◌, Bool, true, cond, Option, Some, None, is_some, refl}
 use Rattle.std.specs.Coded.{Coded, code_by, coded×, coded_ℕ, coded_list}
-use Rattle.std.specs.List.{All, list_any}
-use Rattle.std.specs.List.Sorted.{IsStrictlySortedBy}
+use Rattle.std.specs.List.{All, Contains, list_any}
+use Rattle.std.specs.List.Sorted.{IsStrictlySortedBy, IsNonDecreasingBy}
 use Rattle.std.specs.Map.{keys_of}
-use Rattle.std.specs.Ordering.{nat_cmp, ordering_then, is_eq}
+use Rattle.std.specs.Ordering.{nat_cmp, is_eq}
 use Rattle.std.specs.Cmp.Lexicographic.{slice_cmp}
-use Rattle.std.specs.BTreeMap.{is_at}
-use Rattle.std.specs.declared.cmp.Ordering.{Ordering}
 use Rattle.itip_join.specs.KeyByKey.{value_at}
 
 pub record Moved : Type 0 where
   -- what each UID carries, by UID; 0 if it only has a place, and carries nothing yet
   pub carried : List (List ℕ × ℕ)
-  -- the same by tick; there may be others too
+  -- the same by tick; there may be other moves too
   pub order : List (ℕ × List ℕ)
 
 abbrev pub moved_code : Coded Moved
@@ -29,24 +27,26 @@ is_listed uids uid = list_any (λ u. is_eq (slice_cmp nat_cmp u uid)) uids
 abbrev pub tick_at : List (List ℕ × ℕ) → List ℕ → Option ℕ
 tick_at carried uid = value_at (slice_cmp nat_cmp) carried uid
 
--- by tick, then by UID
-abbrev pub move_cmp : ℕ × List ℕ → ℕ × List ℕ → Ordering
-move_cmp = λ a b. ordering_then (nat_cmp a.0 b.0) (slice_cmp nat_cmp a.1 b.1)
-
-abbrev pub has_move : List (ℕ × List ℕ) → ℕ × List ℕ → Bool
-has_move order move = list_any (is_at (move_cmp move)) order
+-- the tick of a move
+abbrev pub move_tick : ℕ × List ℕ → ℕ
+move_tick move = move.0
 
 -- each UID that carries a tick is in `order` under it
 abbrev pub AreInOrder : List (List ℕ × ℕ) → List (ℕ × List ℕ) → Type 0
-AreInOrder carried order = (uid : List ℕ) (tick : ℕ) → tick_at carried uid ≡ Some tick → 0 < tick → has_move order (tick, uid) ≡ true
+AreInOrder carried order = (uid : List ℕ) (tick : ℕ) → tick_at carried uid ≡ Some tick → 0 < tick → Contains order (tick, uid)
 
 pub record AreMoves (carried : List (List ℕ × ℕ)) (order : List (ℕ × List ℕ)) : Type 0 where
   pub sorted : IsStrictlySortedBy (slice_cmp nat_cmp) (keys_of carried)
   pub in_order : AreInOrder carried order
+  pub by_tick : IsNonDecreasingBy move_tick order
 
 -- there are no places that carry nothing
 abbrev pub AreTicks : List (List ℕ × ℕ) → Type 0
 AreTicks carried = (uid : List ℕ) (tick : ℕ) → tick_at carried uid ≡ Some tick → 0 < tick
+
+-- each UID carries an earlier tick than this
+abbrev pub AreBefore : ℕ → List (List ℕ × ℕ) → Type 0
+AreBefore next carried = (uid : List ℕ) (tick : ℕ) → tick_at carried uid ≡ Some tick → tick < next
 
 -- no UID carries a tick above this one
 abbrev pub AreUpTo : ℕ → List (List ℕ × ℕ) → Type 0
@@ -60,7 +60,7 @@ HavePlaces uids was now = (uid : List ℕ) → (tick_at now uid ≡ tick_at was 
 -- each of these UIDs has a place, and is in `order` under the tick that it is to carry
 pub record AreReady (uids : List (List ℕ)) (tick : ℕ) (moved : Moved) : Type 0 where
   pub placed : (uid : List ℕ) → is_listed uids uid ≡ true → is_some (tick_at moved.carried uid) ≡ true
-  pub in_order : (uid : List ℕ) → is_listed uids uid ≡ true → has_move moved.order (tick, uid) ≡ true
+  pub in_order : (uid : List ℕ) → is_listed uids uid ≡ true → Contains moved.order (tick, uid)
 
 -- the tick of the last of these moves that is of this UID
 abbrev pub last_move : List (List ℕ × ℕ) → List ℕ → Option ℕ

@@ -1,20 +1,22 @@
 //! The UIDs that moved, by UID and by tick, and those that moved since a tick.
-ghost use Rattle.std.specs.Prelude.{◌≡◌, ◌≢◌, ◌↔◌, ◌⊎◌, ◌<◌, ℕ, List, [], Some, None, cond, true, is_some, map, IfOk, OnOk, OnErr, IfSome, IsTrue};
+ghost use Rattle.std.specs.Prelude.{◌≡◌, ◌↔◌, ◌⊎◌, ◌<◌, ℕ, List, [], Some, None, cond, true, is_some, map, IfOk, OnOk, OnErr, IsTrue};
 ghost use Rattle.std.specs.List.{All, Contains};
-ghost use Rattle.std.specs.List.Sorted.{IsStrictlySortedBy};
+ghost use Rattle.std.specs.List.Sorted.{IsStrictlySortedBy, IsNonDecreasingBy};
 ghost use Rattle.std.specs.Map.{keys_of};
 ghost use Rattle.std.specs.Ordering.{nat_cmp, is_eq};
 ghost use Rattle.std.specs.Cmp.Lexicographic.{slice_cmp};
 ghost use Rattle.std.specs.BTreeMap.{IsOrdered};
-ghost use Rattle.itip_desk.specs.MovedSince.{is_listed, tick_at, has_move, AreInOrder, AreTicks, HavePlaces, AreReady, CarriesLast};
+ghost use Rattle.itip_desk.specs.MovedSince.{is_listed, tick_at, move_tick, AreInOrder, AreTicks, AreBefore, HavePlaces, AreReady};
+ghost use Rattle.itip_desk.specs.MovedSince.{CarriesLast};
 ghost use Rattle.itip_desk.specs.Desk.{CarriesAfter};
 
-use itip_lines::Text;
 use itip_todo::Uid;
 use std::alloc::{AllocError, Global};
-use std::collections::{BTreeMap, BTreeSet};
+use std::collections::BTreeMap;
 use std::marker::Model;
-use std::mem;
+
+/// The most bytes of a UID of which each move may hold a text of its own: looking at the text of `ticks` would cost more.
+const SHORT: usize = 64;
 
 /// The UIDs that moved, each with the tick of its last move.
 #[derive(Debug, Drop)]
@@ -22,8 +24,9 @@ pub(crate) struct MovedUids {
     alloc: Global,
     /// The tick that each carries, or 0 for a place that carries nothing yet.
     ticks: BTreeMap<Uid, u64>,
-    /// The same by tick. Ticks that a UID doesn't carry, or no longer carries, may be here too; they are passed over.
-    order: BTreeSet<(u64, Uid)>,
+    /// The moves by tick. Earlier moves of a UID may be here too, and those of a take that was refused; they are passed over. A move of a
+    /// long UID shares the text of `ticks`.
+    order: Vec<(u64, Uid)>,
 }
 
 impl Model for MovedUids {
@@ -33,9 +36,9 @@ impl Model for MovedUids {
 
     ghost coded = { moved_code };
 
-    ghost view = { λ m. record { carried = m.ticks.entries; order = m.order.keys } };
+    ghost view = { λ m. record { carried = m.ticks.entries; order = m.order.items } };
 
-    ghost invariant = { λ m. AreMoves m.ticks.entries m.order.keys };
+    ghost invariant = { λ m. AreMoves m.ticks.entries m.order.items };
 }
 
 impl MovedUids {
@@ -46,7 +49,7 @@ impl MovedUids {
         MovedUids {
             alloc,
             ticks: BTreeMap::new(alloc),
-            order: BTreeSet::new(alloc),
+            order: Vec::new(alloc),
         }
     }
 
@@ -57,10 +60,10 @@ impl MovedUids {
         ensures moves { IfOk result (λ moved. CarriesLast moves.items moved.carried) }
     {
         let mut ticks = BTreeMap::new(alloc);
-        let mut order = BTreeSet::new(alloc);
         for (uid, tick) in moves {
-            put_move(&mut order, &mut ticks, uid, tick)?;
+            ticks.insert(uid, tick)?;
         }
+        let order = moves_by_tick(alloc, &ticks)?;
         Ok(MovedUids {
             alloc,
             ticks,
@@ -77,17 +80,34 @@ impl MovedUids {
 
     /// Allocates what these UIDs need to carry a tick. If an allocation fails, each carries what it did before.
     pub(crate) fn prepare(&mut self, uids: &[Uid], tick: u64) -> Result<(), AllocError>
-        requires { AreTicks self.old.carried }
+        requires ticks { AreTicks self.old.carried }
+        requires before { AreBefore tick self.old.carried }
         ensures places { HavePlaces uids.now self.old.carried self.new.carried }
         ensures ready { OnOk result (AreReady uids.now tick self.new) }
         ensures err { OnErr result (self.new.carried ≡ self.old.carried) }
     {
-        put_moves(&mut self.order, uids, tick)?;
-        if let Err(refused) = put_places(&mut self.ticks, uids) {
+        self.make_room(uids.len());
+        // A take that was refused may have left moves at this tick.
+        cut_at(&mut self.order, tick);
+        if let Err(refused) = put_moves(&mut self.order, &mut self.ticks, uids, tick) {
             drop_places(&mut self.ticks, uids);
             return Err(refused);
         }
         Ok(())
+    }
+
+    /// Makes the list of moves anew, without those that are passed over, if so many more would bring it above two for each UID that is
+    /// here. If memory for this is refused, the list stays.
+    fn make_room(&mut self, more: usize)
+        ensures { self.new.carried ≡ self.old.carried }
+    {
+        let moves = self.order.len().saturating_add(more);
+        if moves <= self.ticks.len().saturating_mul(2) {
+            return;
+        }
+        if let Ok(order) = moves_by_tick(self.alloc, &self.ticks) {
+            self.order = order;
+        }
     }
 
     /// Removes those of these UIDs that only have a place.
@@ -98,27 +118,23 @@ impl MovedUids {
         drop_places(&mut self.ticks, uids);
     }
 
-    /// Makes these UIDs carry the tick that they were prepared for. It can't fail: without memory to remove an old entry, that stays.
+    /// Makes these UIDs carry the tick that they were prepared for.
     pub(crate) fn mark(&mut self, uids: &[Uid], tick: u64)
         requires { AreReady uids.now tick self.old }
         ensures { (uid : List ℕ) → tick_at self.new.carried uid ≡ cond (is_listed uids.now uid) (Some tick) (tick_at self.old.carried uid) }
     {
         for uid in uids {
-            if let Some(before) = set(&mut self.ticks, uid, tick) {
-                forget(&mut self.order, before, uid, tick);
-            }
+            set(&mut self.ticks, uid, tick);
         }
     }
 
-    /// The UIDs that carry a tick above `since`. Entries of earlier ticks are not looked at.
+    /// The UIDs that carry a tick above `since`. Moves up to `since` are not looked at.
     pub(crate) fn after(&self, since: u64) -> Result<Vec<&Uid>, AllocError>
         ensures { IfOk result (λ uids. (uid : List ℕ) → Contains (map (λ u. u.now) uids.items) uid ↔ CarriesAfter self.now.carried since uid) }
     {
         let mut uids = Vec::new(self.alloc);
-        let next = since.saturating_add(1);
-        let from = (next, Uid::new(self.alloc, Text::new(self.alloc))?);
-        for (tick, uid) in self.order.range(from..) {
-            if carries_after(&self.ticks, uid, *tick, since) {
+        for (tick, uid) in moves_after(&self.order, since) {
+            if carries(&self.ticks, uid, *tick) {
                 uids.push(uid)?;
             }
         }
@@ -133,49 +149,93 @@ impl MovedUids {
     }
 }
 
-/// Makes a UID carry a tick.
-fn put_move(
-    order: &mut BTreeSet<(u64, Uid)>,
+/// The last move of each UID, by tick.
+fn moves_by_tick(alloc: Global, ticks: &BTreeMap<Uid, u64>) -> Result<Vec<(u64, Uid)>, AllocError>
+    ensures in_order { IfOk result (λ order. AreInOrder ticks.now.entries order.items) }
+    ensures by_tick { IfOk result (λ order. IsNonDecreasingBy move_tick order.items) }
+{
+    let mut order = Vec::with_capacity(alloc, ticks.len().saturating_mul(2))?;
+    for (uid, tick) in ticks {
+        order.push((*tick, uid.clone()?))?;
+    }
+    order.sort_unstable_by_key(|(tick, _)| *tick);
+    Ok(order)
+}
+
+/// Removes the moves at this tick and at later ones.
+fn cut_at(order: &mut Vec<(u64, Uid)>, tick: u64)
+    requires { IsNonDecreasingBy move_tick order.old.items }
+    ensures by_tick { IsNonDecreasingBy move_tick order.new.items }
+    ensures before { (move : ℕ × List ℕ) → Contains order.new.items move → move.0 < tick }
+    ensures keeps { (move : ℕ × List ℕ) → Contains order.old.items move → move.0 < tick → Contains order.new.items move }
+{
+    let end = order.partition_point(|(at, _)| *at < tick);
+    order.truncate(end);
+}
+
+/// The moves after this tick.
+fn moves_after(order: &[(u64, Uid)], tick: u64) -> &[(u64, Uid)]
+    requires { IsNonDecreasingBy move_tick order.now }
+    ensures { (move : ℕ × List ℕ) → Contains result.now move ↔ (Contains order.now move × (tick < move.0)) }
+{
+    let start = order.partition_point(|(at, _)| *at <= tick);
+    &order[start..]
+}
+
+/// Adds moves of these UIDs at a tick, and makes a place for each of them that has none. If an allocation fails, some of both may have
+/// been added.
+fn put_moves(
+    order: &mut Vec<(u64, Uid)>,
     ticks: &mut BTreeMap<Uid, u64>,
-    uid: Uid,
+    uids: &[Uid],
     tick: u64,
 ) -> Result<(), AllocError>
+    requires by_tick { IsNonDecreasingBy move_tick order.old.items }
+    requires before { (move : ℕ × List ℕ) → Contains order.old.items move → move.0 < tick }
     requires ordered { IsOrdered (slice_cmp nat_cmp) ticks.old }
-    requires in_order { AreInOrder ticks.old.entries order.old.keys }
-    ensures ordered { OnOk result (IsOrdered (slice_cmp nat_cmp) ticks.new) }
-    ensures in_order { OnOk result (AreInOrder ticks.new.entries order.new.keys) }
-    ensures put { OnOk result ((q : List ℕ) → tick_at ticks.new.entries q
-        ≡ cond (is_eq (slice_cmp nat_cmp uid q)) (Some tick) (tick_at ticks.old.entries q)) }
-{
-    order.insert((tick, uid.clone()?))?;
-    ticks.insert(uid, tick)?;
-    Ok(())
-}
-
-/// Adds these UIDs under a tick.
-fn put_moves(order: &mut BTreeSet<(u64, Uid)>, uids: &[Uid], tick: u64) -> Result<(), AllocError>
-    ensures all { OnOk result ((uid : List ℕ) → is_listed uids.now uid ≡ true → has_move order.new.keys (tick, uid) ≡ true) }
-    ensures keeps { (move : ℕ × List ℕ) → has_move order.old.keys move ≡ true → has_move order.new.keys move ≡ true }
-{
-    for uid in uids {
-        order.insert((tick, uid.clone()?))?;
-    }
-    Ok(())
-}
-
-/// Makes a place for each of these UIDs that has none.
-fn put_places(ticks: &mut BTreeMap<Uid, u64>, uids: &[Uid]) -> Result<(), AllocError>
-    requires { IsOrdered (slice_cmp nat_cmp) ticks.old }
+    ensures by_tick { IsNonDecreasingBy move_tick order.new.items }
+    ensures all { OnOk result ((uid : List ℕ) → is_listed uids.now uid ≡ true → Contains order.new.items (tick, uid)) }
+    ensures keeps { (move : ℕ × List ℕ) → Contains order.old.items move → Contains order.new.items move }
     ensures ordered { IsOrdered (slice_cmp nat_cmp) ticks.new }
     ensures places { HavePlaces uids.now ticks.old.entries ticks.new.entries }
-    ensures all { OnOk result ((uid : List ℕ) → is_listed uids.now uid ≡ true → is_some (tick_at ticks.new.entries uid) ≡ true) }
+    ensures placed { OnOk result ((uid : List ℕ) → is_listed uids.now uid ≡ true → is_some (tick_at ticks.new.entries uid) ≡ true) }
 {
     for uid in uids {
-        if !ticks.contains_key(uid) {
-            ticks.insert(uid.clone()?, 0)?;
-        }
+        let own = place(ticks, uid)?;
+        order.push((tick, own))?;
     }
     Ok(())
+}
+
+/// Makes a place for a UID if it has none, and returns the UID. One that is long is returned as it is in its place, so that only one copy
+/// of its text is held.
+fn place(ticks: &mut BTreeMap<Uid, u64>, uid: &Uid) -> Result<Uid, AllocError>
+    requires { IsOrdered (slice_cmp nat_cmp) ticks.old }
+    ensures own { IfOk result (λ own. own ≡ uid.now) }
+    ensures ordered { IsOrdered (slice_cmp nat_cmp) ticks.new }
+    ensures places { (uids : List (List ℕ)) (was : List (List ℕ × ℕ)) → is_listed uids uid.now ≡ true
+        → HavePlaces uids was ticks.old.entries → HavePlaces uids was ticks.new.entries }
+    ensures stay { (q : List ℕ) → is_some (tick_at ticks.old.entries q) ≡ true → is_some (tick_at ticks.new.entries q) ≡ true }
+    ensures placed { OnOk result (is_some (tick_at ticks.new.entries uid.now) ≡ true) }
+{
+    if let Some((own, _)) = ticks.get_key_value(uid) {
+        return one_of_two(uid, own);
+    }
+    ticks.insert(uid.clone()?, 0)?;
+    Ok(uid.clone()?)
+}
+
+/// Of two equal UIDs the first if it is short, and else the second.
+fn one_of_two(uid: &Uid, own: &Uid) -> Result<Uid, AllocError>
+    requires { own.now ≡ uid.now }
+    ensures { IfOk result (λ one. one ≡ uid.now) }
+{
+    let one = if uid.as_str().len() <= SHORT {
+        uid
+    } else {
+        own
+    };
+    Ok(one.clone()?)
 }
 
 /// Removes those of these UIDs that only have a place.
@@ -203,35 +263,15 @@ fn carries(ticks: &BTreeMap<Uid, u64>, uid: &Uid, tick: u64) -> bool
     }
 }
 
-/// Whether a UID carries this tick, and the tick is above `since`.
-fn carries_after(ticks: &BTreeMap<Uid, u64>, uid: &Uid, tick: u64, since: u64) -> bool
-    ensures { IsTrue result ↔ ((tick_at ticks.now.entries uid.now ≡ Some tick) × (since < tick)) }
-{
-    tick > since && carries(ticks, uid, tick)
-}
-
-/// Makes a UID carry a tick, and returns what it carried before. A UID without a place is left without one, and `None` returned.
-fn set(ticks: &mut BTreeMap<Uid, u64>, uid: &Uid, tick: u64) -> Option<u64>
+/// Makes a UID carry a tick. A UID without a place is left without one.
+fn set(ticks: &mut BTreeMap<Uid, u64>, uid: &Uid, tick: u64)
     requires { IsOrdered (slice_cmp nat_cmp) ticks.old }
     ensures ordered { IsOrdered (slice_cmp nat_cmp) ticks.new }
-    ensures before { result ≡ tick_at ticks.old.entries uid.now }
     ensures with { (q : List ℕ) → is_some (tick_at ticks.old.entries uid.now) ≡ true
         → tick_at ticks.new.entries q ≡ cond (is_eq (slice_cmp nat_cmp uid.now q)) (Some tick) (tick_at ticks.old.entries q) }
     ensures absent { tick_at ticks.old.entries uid.now ≡ None → ticks.new.entries ≡ ticks.old.entries }
 {
-    let place = ticks.get_mut(uid)?;
-    Some(mem::replace(place, tick))
-}
-
-/// Removes a UID from under the tick that it carried before, unless it carries that now. Without memory for this it stays.
-fn forget(order: &mut BTreeSet<(u64, Uid)>, before: u64, uid: &Uid, tick: u64)
-    ensures { (move : ℕ × List ℕ) → has_move order.old.keys move ≡ true
-        → (move.1 ≢ uid.now) ⊎ (move.0 ≡ tick) → has_move order.new.keys move ≡ true }
-{
-    if before == tick {
-        return;
-    }
-    if let Ok(uid) = uid.clone() {
-        order.remove(&(before, uid));
+    if let Some(place) = ticks.get_mut(uid) {
+        *place = tick;
     }
 }

@@ -163,6 +163,17 @@ fn says(line: &[u8], word: &[u8]) -> bool
 fn first_said(line: &[u8]) -> Option<(u8, &[u8])>
     ensures { MatchOption result (said line.now ≡ []) (λ cut. SaysFirst line.now cut.0 cut.1.now) }
 {
+    // Looking at these bytes is cheaper than the loop, and a text may be nothing but empty lines.
+    match line {
+        [] | [LF] | [CR, LF] => None,
+        [b, after @ ..] if !is_left_out(*b, false, after) => Some((*b, after)),
+        _ => search_said(line),
+    }
+}
+
+fn search_said(line: &[u8]) -> Option<(u8, &[u8])>
+    ensures { MatchOption result (said line.now ≡ []) (λ cut. SaysFirst line.now cut.0 cut.1.now) }
+{
     let mut rest = line;
     let mut is_behind = false;
     while let [b, after @ ..] = rest {

@@ -2,7 +2,9 @@
 ghost use Rattle.std.specs.Prelude.{◌≡◌, IfOk, refl};
 ghost use Rattle.std.specs.Cmp.{partial_order_from_total, partial_equiv_from_equiv, eq_by_cmp_equiv};
 ghost use Rattle.std.specs.Option.{option_cmp, option_copied};
-ghost use Rattle.std.specs.Ordering.{as_partial_cmp, eq_by_cmp};
+ghost use Rattle.std.specs.Ordering.{as_partial_cmp, eq_by_cmp, nat_cmp, ordering_then};
+ghost use Rattle.std.specs.Cmp.Lexicographic.{slice_cmp};
+ghost use Rattle.itip_moment.specs.Order.{moment_cmp};
 ghost use Rattle.itip_state.specs.Slots.{time_cmp, rest_cmp, slot_cmp, slot_total};
 
 use itip_items::Key;
@@ -59,18 +61,61 @@ impl Slot {
 pub(crate) fn compare(key: &Key, other: &Key) -> Ordering
     ensures { result ≡ slot_cmp key.now other.now }
 {
-    compare_rest(key, other).then_with(|| key.uid().cmp(other.uid()))
+    match compare_rest(key, other) {
+        Ordering::Equal => key.uid().cmp(other.uid()),
+        unequal => unequal,
+    }
 }
 
 /// Compares by kind of key, day and second of the instance, attendee, and whole instance.
 fn compare_rest(key: &Key, other: &Key) -> Ordering
     ensures { result ≡ rest_cmp key.now other.now }
 {
-    key.rank()
-        .cmp(&other.rank())
-        .then_with(|| compare_times(key.instance(), other.instance()))
-        .then_with(|| key.attendee().cmp(other.attendee()))
-        .then_with(|| key.cmp_instances(other))
+    // Most keys are those of answers: these are compared without asking each key again for its parts.
+    match (key, other) {
+        (Key::Answer(_, at, attendee), Key::Answer(_, other_at, other_attendee)) => compare_answers(
+            at.as_ref(),
+            attendee.as_str(),
+            other_at.as_ref(),
+            other_attendee.as_str(),
+        ),
+        _ => compare_parts(key, other),
+    }
+}
+
+/// Compares keys of any kinds, as [`compare_rest`] does.
+fn compare_parts(key: &Key, other: &Key) -> Ordering
+    ensures { result ≡ rest_cmp key.now other.now }
+{
+    match key.rank().cmp(&other.rank()) {
+        Ordering::Equal => compare_answers(
+            key.instance(),
+            key.attendee(),
+            other.instance(),
+            other.attendee(),
+        ),
+        unequal => unequal,
+    }
+}
+
+/// Compares by day and second of the instance, attendee, and whole instance.
+fn compare_answers(
+    at: Option<&Moment>,
+    attendee: &str,
+    other_at: Option<&Moment>,
+    other_attendee: &str,
+) -> Ordering
+    ensures { result ≡ ordering_then (option_cmp time_cmp (option_copied at.entry) (option_copied other_at.entry))
+        (ordering_then (slice_cmp nat_cmp attendee.now other_attendee.now)
+        (option_cmp moment_cmp (option_copied at.entry) (option_copied other_at.entry))) }
+{
+    match compare_times(at, other_at) {
+        Ordering::Equal => match attendee.cmp(other_attendee) {
+            Ordering::Equal => at.cmp(&other_at),
+            unequal => unequal,
+        },
+        unequal => unequal,
+    }
 }
 
 /// Compares two instances by day and second. The to-do as a whole comes before them.

@@ -1,7 +1,7 @@
 use Rattle.std.proofs.Common.{rules, ◌≡◌, sym, [], arith}
 use Rattle.std.proofs.lemmas.List.{nil_from_length}
 use Rattle.std.specs.Vec.Iter.{into_iter_items}
-use Rattle.itip_desk.proofs.LastMoves.{nothing_put, none_in_order, put_more, all_put, last_ticks}
+use Rattle.itip_desk.proofs.LastMoves.{nothing_put, put_more, all_put, last_ticks}
 use Rattle.itip_desk.proofs.moved_since.MovedUids.of_moves.Goals as goal
 
 pub loop-uid-init : goal.loop-uid-init
@@ -12,14 +12,12 @@ loop-uid-init c =
     record {
       so_far = nothing_put c.args.moves.items (into_iter_items c.into_iter-uid-iterator.result) c.new-ticks.result.entries (sym given) none;
       ordered = search rules;
-      in_order = none_in_order c.new-ticks.result.entries c.new-order.result.keys none;
     }
 
 pub loop-uid-preserved : goal.loop-uid-preserved
 loop-uid-preserved c = record {
-  so_far = put_more _ _ _ _ _ _ _ c.loop-uid.invariant.so_far c.in-Some.ensures.steps.0 c.in_ok-put_move.ensures.put;
-  ordered = c.in_ok-put_move.ensures.ordered;
-  in_order = c.in_ok-put_move.ensures.in_order;
+  so_far = put_more _ _ _ _ _ _ _ c.loop-uid.invariant.so_far c.in-Some.ensures.steps.0 c.in_ok-insert.ensures.updates.0;
+  ordered = c.insert.ensures.ordered;
 }
 
 pub returns-clause-moves : goal.returns-clause-moves
