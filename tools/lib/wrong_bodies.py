@@ -13,10 +13,10 @@ import repository
 EDITS = os.path.join(repository.TOP, "edits")
 RECORD = os.path.join(EDITS, "RECORD")
 HEAD = """\
-# The wrong bodies of edits/: when each was last refused, a sum of the text that it was tried on, or of one in which only names
-# are others (the edit, its crate, and what the crates below it state, without comments and docs, and the toolchain's logic), and
-# how: at a goal of the function that it changes (goal) or of another (caller), since a proof by hand no longer fits (proof), for a
-# lost name (name), or by a limit of the prover (limit).
+# The wrong bodies of edits/: when each was last refused, a sum of the text that it was tried on, or of one in which only names and
+# breaks of lines are others (the edit, its crate, and what the crates below it state, without comments and docs, and the
+# toolchain's logic), and how: at a goal of the function that it changes (goal) or of another (caller), since a proof by hand no
+# longer fits (proof), for a lost name (name), or by a limit of the prover (limit).
 """
 # What says little of a contract: such an edit is due until it is refused in another way.
 WEAK = ("name", "limit")
@@ -135,7 +135,8 @@ CYCLE = re.compile(r"#\[cycle\((\w+)\)\]")
 
 
 def proof_of(edit):
-    """The folder of the proof of the only function whose body an edit changes: it has the function's name, or that of its cycle of calls."""
+    """The folder of the proof of the only function whose body an edit changes: it has the function's name, or that of its cycle
+    of calls."""
     file, function = body_of(edit)
     lines = repository.text_of(repository.crates()[edit.crate].folder, file).split("\n")
     cycle = CYCLE.search("\n".join(lines[function.first - 1 : function.body]))
@@ -222,5 +223,6 @@ def judged(edits, output, records):
 def faults(edits, records):
     """What is wrong with edits and their records before any is tried: a line for each."""
     found = [f"{name}: {why}" for name, it in edits.items() for why in [edited(it)[1]] if why]
-    found += [f"{it}: imports the proof of a function of another crate, whose text no record counts" for it in repository.imports_of_answers()]
+    imports = "imports the proof of a function of another crate, whose text no record counts"
+    found += [f"{it}: {imports}" for it in repository.imports_of_answers()]
     return found + [f"{name}: edits/RECORD names it, and there is no such edit" for name in records if name not in edits]

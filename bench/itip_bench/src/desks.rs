@@ -13,7 +13,8 @@ use std::rt::Clock;
 /// How many UIDs of a large desk a delta is about.
 const MOVED: u64 = 100;
 
-/// Takes five items of each of so many to-dos, each twice and in random order; merges two states of them; and makes a delta of 100 UIDs out of five times as many.
+/// Takes five items of each of so many to-dos, each twice and in random order; merges two states of them; and makes a delta of 100 UIDs out
+/// of five times as many.
 pub(crate) fn measure_desks<R: AllocGlobal + Clock + Print>(
     rt: &R,
     to_dos: u64,

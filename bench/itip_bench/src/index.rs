@@ -21,8 +21,8 @@ const FROM: i32 = 21_000;
 /// How often each list is made.
 const TIMES: u64 = 10;
 
-/// Lists a week of so many to-dos over ten years and what one of 1,000 attendees has to do; and of a tenth of the to-dos ten weeks and what one of 100 attendees has
-/// to do, which is as much.
+/// Lists a week of so many to-dos over ten years and what one of 1,000 attendees has to do; and of a tenth of the to-dos ten weeks and what
+/// one of 100 attendees has to do, which is as much.
 pub(crate) fn measure_index<R: AllocGlobal + Clock + Print>(
     rt: &R,
     to_dos: u64,

@@ -41,7 +41,8 @@ fn reported(alloc: Global, entries: u64) -> Result<Desk, BenchError> {
     Ok(desk)
 }
 
-/// What is heard of four to-dos: one with a newer refresh request, one cancelled, one that is not known, and one with a cancelled instance. Each has its number, method, stamp and lines.
+/// What is heard of four to-dos: one with a newer refresh request, one cancelled, one that is not known, and one with a cancelled instance.
+/// Each has its number, method, stamp and lines.
 const HEARD: [(u64, &str, &str, &str); 7] = [
     (0, "REQUEST", EARLY, "ATTENDEE:mailto:a@example.com\r\n"),
     (0, "REFRESH", LATE, "ATTENDEE:mailto:a@example.com\r\n"),

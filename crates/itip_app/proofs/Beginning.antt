@@ -35,7 +35,8 @@ none_more loads i load number within is other none file there =
     let f : Load → ℕ × List ℕ = λ l. (l.desk, string_bytes l.file) in
     let more : take (i + 1) loads ≡ take i loads ++ load ∷ [] = take_more loads i load within ∙
     ap (λ (l : Load). take i loads ++ l ∷ []) (sym is) in
-    let both : names_of (take (i + 1) loads) ≡ names_of (take i loads) ++ f load ∷ [] = ap names_of more ∙ map-append f (take i loads) (load ∷ [])
+    let both : names_of (take (i + 1) loads) ≡ names_of (take i loads) ++ f load ∷ [] = ap names_of more ∙
+    map-append f (take i loads) (load ∷ [])
     in
     elim (Contains-push_cases (names_of (take i loads)) (f load) (number, file)
     (subst (λ (l : List (ℕ × List ℕ)). Contains l (number, file)) both there)) [
@@ -50,14 +51,17 @@ named_at loads i load number file within is desk file_is =
     let f : Load → ℕ × List ℕ = λ l. (l.desk, string_bytes l.file) in
     let count : length (names_of loads) ≡ length loads = length-map loads f in
     let at : get_or (names_of loads) i (f load) ≡ f load = get_or-map f loads i load (f load) within ∙ ap f (sym is) in
-    let same : f load ≡ (number, file) = ap (λ (n : ℕ). (n, string_bytes load.file)) desk ∙ ap (λ (b : List ℕ). (number, b)) (sym file_is) in
+    let same : f load ≡ (number, file) = ap (λ (n : ℕ). (n, string_bytes load.file)) desk ∙
+    ap (λ (b : List ℕ). (number, b)) (sym file_is) in
     subst (λ (p : ℕ × List ℕ). Contains (names_of loads) p) (at ∙ same)
     (Contains-get_or (names_of loads) i (f load) (omega (arith, within, count)))
 
 -- why a desk can't be loaded from a file
-pub load_fault : {T : Type 0} (holds : List ℕ → Option (List ℕ) → Type 0) (file : List ℕ) (r : Result T LoadFault) (fault : LoadFault) → r ≡ Err fault →
+pub load_fault : {T : Type 0} (holds : List ℕ → Option (List ℕ) → Type 0) (file : List ℕ) (r : Result T LoadFault) (fault : LoadFault) →
+    r ≡ Err fault →
     (r ≡ Err cause.Read → holds file None)
-    → ((refusal : FileRefusal) → r ≡ Err (cause.Refused refusal) → (octets : List ℕ) × holds file (Some octets) × RefusesFile octets refusal)
+    → ((refusal : FileRefusal) → r ≡ Err (cause.Refused refusal) → (octets : List ℕ) × holds file
+    (Some octets) × RefusesFile octets refusal)
     → IsLoadFault holds file fault
 load_fault holds file r cause.Read is unread known = unread is
 load_fault holds file r (cause.Refused refusal) is unread known = known refusal is

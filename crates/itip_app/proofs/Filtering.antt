@@ -25,7 +25,8 @@ pub as_asked : {X E : Type 0} (P : X → Outcome → Type 0) (x asked : X) (r : 
 as_asked P x asked r e h = subst (λ (y : _). IfOk r (P y)) (sym e) h
 
 -- more that holds of an outcome
-pub outcome_more : {E : Type 0} (P Q : Outcome → Type 0) (r : Result Outcome E) → ((outcome : Outcome) → P outcome → Q outcome) → IfOk r P → IfOk r Q
+pub outcome_more : {E : Type 0} (P Q : Outcome → Type 0) (r : Result Outcome E) → ((outcome : Outcome) → P outcome → Q outcome) →
+    IfOk r P → IfOk r Q
 outcome_more P Q (Ok outcome) more h = more outcome h
 outcome_more P Q (Err fault) more h = tt
 

@@ -37,8 +37,8 @@ use Rattle.itip_app.specs.declared.stream.Unserved.{Unserved}
 
 -- `explains` tells for which call it was asked what its watch is to say. `tells` tells with which number a refusal was said, and with which
 -- flag: with its cause if that is set. `reads` tells for which filter it was asked on how many threads it reads, `employs` how many workers
--- were asked for, `shows` whether it could be said why nothing is run, `gives` which words the program was given, or why none, `ticks` which
--- moment its clock showed, or none, and `input_of` what a reader of standard input gives.
+-- were asked for, `shows` whether it could be said why nothing is run, `gives` which words the program was given, or why none, `ticks`
+-- which moment its clock showed, or none, and `input_of` what a reader of standard input gives.
 
 -- ---- a script
 
@@ -194,7 +194,8 @@ pub data EndsCall {I : Type 0} (holds : List ℕ → Option (List ℕ) → Type 
     of_stream : (streamed : Streamed) → what ≡ call.Stream streamed → EndsServing holds tells streamed input left old new status
         → EndsCall holds remaining tells reads employs what input left old new status
     of_office : (scripted : Scripted) (workers : ℕ) → what ≡ call.Office scripted workers
-        → EndsOffice employs scripted workers input old new status → EndsCall holds remaining tells reads employs what input left old new status
+        → EndsOffice employs scripted workers input old new status →
+        EndsCall holds remaining tells reads employs what input left old new status
     of_check : (why : Bool) → what ≡ call.Check why → EndsShowing input old new status
         → EndsCall holds remaining tells reads employs what input left old new status
     of_filter : (asked : Filter) → what ≡ call.Filter asked → EndsFiltered remaining tells reads asked status

@@ -58,7 +58,8 @@ pub record ServesStream (holds : List ℕ → Option (List ℕ) → Type 0) (str
   pub served : IsStream streamed.scripted.window desks input left output written refusal
 
 -- The desks that are asked for serve a stream up to a fault.
-pub record ServesStreamFront (holds : List ℕ → Option (List ℕ) → Type 0) (streamed : Streamed) (input left output written : Option (List ℕ)) : Type 0
+pub record ServesStreamFront (holds : List ℕ → Option (List ℕ) → Type 0) (streamed : Streamed)
+    (input left output written : Option (List ℕ)) : Type 0
   where
     pub desks : List Shown
     pub begun : BeginsAll holds streamed desks

@@ -1,5 +1,6 @@
 -- Which entries are between two bounds.
-use Rattle.std.proofs.Common.{◌≡◌, ◌∙◌, ◌<◌, ◌||◌, ℕ, ℤ, ◌≤ℤ◌, ◌<ℤ◌, List, [], ◌∷◌, ◌++◌, map, refl, sym, ap, subst, inl, inr, Bool, true, false, cond}
+use Rattle.std.proofs.Common.{◌≡◌, ◌∙◌, ◌<◌, ◌||◌, ℕ, ℤ, ◌≤ℤ◌, ◌<ℤ◌, List, [], ◌∷◌, ◌++◌}
+use Rattle.std.proofs.Common.{map, refl, sym, ap, subst, inl, inr, Bool, true, false, cond}
 use Rattle.std.proofs.Common.{◌↔◌, not, ◌&&◌, arith, Option, Some, None, option_to_list}
 use Rattle.std.specs.List.{Contains, list_any}
 use Rattle.std.specs.Ordering.{nat_cmp, int_cmp, ordering_then, is_le, is_gt, is_eq, MatchOrdering}
@@ -33,7 +34,8 @@ use Rattle.itip_view.specs.declared.row.Row.{Row}
 use Rattle.itip_view.specs.declared.window.Window.{Window}
 use Rattle.itip_view.proofs.Needing.{row_needs_days, row_needs_name}
 use Rattle.itip_desk.specs.Numbers.{text_number, uid_number}
-use Rattle.itip_desk.specs.Entries.{IndexEntry, mark_cmp, mark_total, item_cmp, owner_cmp, owner_of, day_cmp, name_cmp, day_entry, name_entry}
+use Rattle.itip_desk.specs.Entries.{IndexEntry, mark_cmp, mark_total, item_cmp, owner_cmp}
+use Rattle.itip_desk.specs.Entries.{owner_of, day_cmp, name_cmp, day_entry, name_entry}
 use Rattle.itip_desk.specs.Entries.{day_bound, name_bound, address_number, days_entry, line_entry, day_entries, line_entries, entries_of}
 use Rattle.itip_desk.specs.Found.{NamesLine}
 use Rattle.itip_desk.specs.Index.{has, IsEmptyIndex, IsIndexOf}

@@ -204,7 +204,8 @@ pub parsed_none : {E : Type 0} (ds text : List ℕ) → text ≡ ds → (r : Res
     IfNone (result_ok r) (list_all is_digit ds ≡ true → (number : ℕ) → IsValue ds number → ⊥)
 parsed_none ds text same (Ok n) parses = tt
 parsed_none {E} ds text same (Err e) parses =
-    λ digits number. unparsed {E = E} ds number (Err e) e refl (subst (λ (t : List ℕ). ParsesUnsigned {E = E} 64 10 t (Err e)) same parses) digits
+    λ digits number. unparsed {E = E} ds number (Err e) e refl (subst (λ (t : List ℕ). ParsesUnsigned {E = E} 64 10 t (Err e)) same parses)
+    digits
 
 -- ---- a beginning that is some text
 

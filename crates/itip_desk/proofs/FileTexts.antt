@@ -489,10 +489,12 @@ module _ (octets : List ℕ) (a b : Shown) (tells : TellsDesk octets a) (also : 
   one_tick = elim (empty_or_begins octets a tells) [
     | inl none ↦ elim (empty_or_begins octets b also) [
       | inl nothing ↦ none.1 ∙ sym nothing.1
-      | inr begins ↦ let e = sym none.0 ∙ begins.2 in absurd (not_empty (head_of b.tick also.file.items) (moved_at b.changed begins.0) begins.0.bytes begins.1 e)
+      | inr begins ↦ let e = sym none.0 ∙ begins.2 in absurd (not_empty (head_of b.tick also.file.items)
+          (moved_at b.changed begins.0) begins.0.bytes begins.1 e)
     ]
     | inr begins ↦ elim (empty_or_begins octets b also) [
-      | inl none ↦ let e = sym none.0 ∙ begins.2 in absurd (not_empty (head_of a.tick tells.file.items) (moved_at a.changed begins.0) begins.0.bytes begins.1 e)
+      | inl none ↦ let e = sym none.0 ∙ begins.2 in absurd (not_empty (head_of a.tick tells.file.items)
+          (moved_at a.changed begins.0) begins.0.bytes begins.1 e)
       | inr starts ↦ tick_once (record { items = length tells.file.items; tick = a.tick })
           (record { items = length also.file.items; tick = b.tick }) (is_head octets a tells) (is_head octets b also)
           (moved_at a.changed begins.0) (moved_at b.changed starts.0) begins.0.bytes starts.0.bytes begins.1 starts.1

@@ -11,7 +11,8 @@ use Rattle.itip_state.proofs.Members.{none_in, cons_cases}
 use Rattle.itip_desk.specs.Found.{AddsFound}
 
 -- the UIDs of the entries that were passed are found
-pub record FoundUpTo {E : Type 0} (item_of : E → Item) (P : Item → Type 0) (all : List E) (old now : List (List ℕ)) (rest : List E) : Type 0 where
+pub record FoundUpTo {E : Type 0} (item_of : E → Item) (P : Item → Type 0) (all : List E) (old now : List (List ℕ))
+    (rest : List E) : Type 0 where
   pub keeps : (uid : List ℕ) → Contains old uid → Contains now uid
   pub coming : (entry : E) → Contains all entry → P (item_of entry) → Contains now (uid_of (item_of entry).key) ⊎ Contains rest entry
 

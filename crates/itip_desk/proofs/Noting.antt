@@ -1,5 +1,6 @@
 -- How the entries of an index change.
-use Rattle.std.proofs.Common.{◌≡◌, ◌∙◌, ◌<◌, ◌+◌, ℕ, List, [], ◌∷◌, ◌++◌, map, take, drop, length, get_or, refl, sym, ap, inl, inr, Bool, true, false, ◌||◌, ◌&&◌, not, cond, Option, Some, None}
+use Rattle.std.proofs.Common.{◌≡◌, ◌∙◌, ◌<◌, ◌+◌, ℕ, List, [], ◌∷◌, ◌++◌, map, take, drop, length, get_or, refl}
+use Rattle.std.proofs.Common.{sym, ap, inl, inr, Bool, true, false, ◌||◌, ◌&&◌, not, cond, Option, Some, None}
 use Rattle.std.proofs.Common.{option_to_list}
 use Rattle.std.specs.List.{list_any}
 use Rattle.std.specs.Ordering.{is_eq}

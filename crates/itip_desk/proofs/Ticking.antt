@@ -55,7 +55,8 @@ listed_push : (us : List (List ℕ)) (u q : List ℕ) → is_listed (us ++ u ∷
 listed_push us u q = list_any-append (λ x. is_eq (uid_cmp x q)) us (u ∷ [])
 
 -- with one more UID, another is listed if it was before
-pub listed_before : (us now : List (List ℕ)) (u q : List ℕ) → now ≡ us ++ u ∷ [] → is_eq (uid_cmp u q) ≡ false → is_listed now q ≡ is_listed us q
+pub listed_before : (us now : List (List ℕ)) (u q : List ℕ) → now ≡ us ++ u ∷ [] → is_eq (uid_cmp u q) ≡ false →
+    is_listed now q ≡ is_listed us q
 listed_before us now u q more apart = ap (λ xs. is_listed xs q) more ∙ listed_push us u q ∙ ap (λ b. is_listed us q || (b || false)) apart ∙
     or_false (is_listed us q)
 
@@ -191,7 +192,8 @@ module _ (all us now_us : List (List ℕ)) (u : List ℕ) (was now : Carried) (m
           (λ same. here q same)
           (λ apart. other q apart ∙ left.out q (sym (listed_before us now_us u q more apart) ∙ h))
 
-pub places_out : (all : List (List ℕ)) (was now : Carried) → IsStrictlySortedBy uid_cmp (keys_of was) → IsStrictlySortedBy uid_cmp (keys_of now) →
+pub places_out : (all : List (List ℕ)) (was now : Carried) → IsStrictlySortedBy uid_cmp (keys_of was) →
+    IsStrictlySortedBy uid_cmp (keys_of now) →
     PlacesLeft all all was now → now ≡ was
 places_out all was now sorted sorted_now left = entries_from_values nat_list_cmp_total exact_bytes now was sorted_now sorted
     (λ q. elim (left.places q) [ inl is ↦ is | inr place ↦ left.out q place.0 ])
@@ -208,7 +210,8 @@ pub none_marked : (tick : ℕ) (all : List (List ℕ)) (was now : Carried) (orde
 none_marked tick all was now order same in_order ready =
     record { at = λ q. ap (λ es. tick_at es q) same; in_order = in_order; ready = ready }
 
-pub marked_there : (tick : ℕ) (all us : List (List ℕ)) (was now : Carried) (order : List (ℕ × List ℕ)) → AreMarked tick all us was now order →
+pub marked_there : (tick : ℕ) (all us : List (List ℕ)) (was now : Carried) (order : List (ℕ × List ℕ)) →
+    AreMarked tick all us was now order →
     (q : List ℕ) → is_some (tick_at was q) ≡ true → is_some (tick_at now q) ≡ true
 marked_there tick all us was now order marked q h = by_bool (is_listed us q) (is_some (tick_at now q) ≡ true)
     (λ k. ap is_some (marked.at q ∙ ap (λ b. cond b (Some tick) (tick_at was q)) k))
@@ -324,7 +327,8 @@ marked_ticks uids es placed gs next above ticks have marked uid t there = by_boo
     differ e = cc
 
 -- if the marks are at this tick, none is above it
-pub marked_up_to : (uids : List (List ℕ)) (es placed gs : Carried) (top next : ℕ) → top ≤ next → AreUpTo top es → HavePlaces uids es placed →
+pub marked_up_to : (uids : List (List ℕ)) (es placed gs : Carried) (top next : ℕ) → top ≤ next → AreUpTo top es →
+    HavePlaces uids es placed →
     ((uid : List ℕ) → tick_at gs uid ≡ cond (is_listed uids uid) (Some next) (tick_at placed uid)) → AreUpTo next gs
 marked_up_to uids es placed gs top next up ticks have marked uid t there = by_bool (is_listed uids uid) (t ≤ next)
     (λ k.
@@ -414,7 +418,8 @@ delta_is desk since state items batch uids kept carried part_is is = record {
 }
 
 -- nothing moved after the tick of the desk
-pub nothing_since : (desk : Shown) (since : ℕ) (batch : List Item) → desk.tick ≤ since → AreUpTo desk.tick desk.changed → IsItemsOf batch [] →
+pub nothing_since : (desk : Shown) (since : ℕ) (batch : List Item) → desk.tick ≤ since → AreUpTo desk.tick desk.changed →
+    IsItemsOf batch [] →
     IsDeltaOf desk since batch
 nothing_since desk since batch up ticks is = record {
   ascend = is.ascend;

@@ -58,7 +58,8 @@ entry_item item e h = by_bool (has_rows item) (item_of e ≡ item)
       | inl day ↦ of_map item (days_entry item) (λ d. refl) (option_to_list (row_days item)) e day
       | inr line ↦ of_map item (line_entry item) (λ l. refl) item.todo.attendees e line
     ])
-    (λ no_rows. absurd (none_in e (subst (λ b. Contains (cond b (day_entries item ++ line_entries item item.todo.attendees) []) e) no_rows h)))
+    (λ no_rows. absurd (none_in e (subst (λ b. Contains (cond b (day_entries item ++ line_entries item item.todo.attendees) []) e) no_rows
+    h)))
 
 one_item : (e : IndexEntry) (i j : Item) → Contains (entries_of i) e → Contains (entries_of j) e → i ≡ j
 one_item e i j h g = sym (entry_item i e h) ∙ entry_item j e g
@@ -112,7 +113,8 @@ module _ (old news found giving after : List Item) (state : IsState old) (of : A
           | inl before ↦ was.alive (record {
             can_die = dead.can_die;
             series = dead.series;
-            best = best_part (old ++ news) old (Series (uid_of i.key)) dead.series (λ j h. Contains-append_left old news j h) dead.best before;
+            best = best_part (old ++ news) old (Series (uid_of i.key)) dead.series (λ j h. Contains-append_left old news j h)
+                dead.best before;
             below = dead.below;
           })
           | inr new ↦ apart (gives.below i dead.series there ((of dead.series).1 (new, ap is_of_rows dead.best.about)) dead.best.about
@@ -266,7 +268,8 @@ pub settled_out : (state items : List Item) (item : Item) (index now next : Inde
     HasSettled state (items ++ item ∷ []) index next
 settled_out state items item index now next gone is so = record {
   none_new = λ e h. so.none_new e (first_part (has now e) (not (is_in (entries_of item) e)) (sym (is e) ∙ h));
-  stays = λ e h all. is e ∙ both (has now e) (is_in (entries_of item) e) (so.stays e h all) (λ given. gone (all item (in_list (entries_of item) e given)));
+  stays = λ e h all. is e ∙ both (has now e) (is_in (entries_of item) e) (so.stays e h all)
+      (λ given. gone (all item (in_list (entries_of item) e given)));
   gone = λ i h. elim (Contains-push_cases items item i h) [
     | inl before ↦ elim (so.gone i before) [
       | inl kept ↦ inl kept

@@ -11,7 +11,7 @@ use Rattle.itip_join.specs.KeyByKey.{value_at}
 pub record Moved : Type 0 where
   -- what each UID carries, by UID; 0 if it only has a place, and carries nothing yet
   pub carried : List (List ℕ × ℕ)
-  -- the same by tick; there may be other moves too
+  -- each tick that a UID carries, by tick; there may be other moves too
   pub order : List (ℕ × List ℕ)
 
 abbrev pub moved_code : Coded Moved
@@ -35,6 +35,7 @@ move_tick move = move.0
 abbrev pub AreInOrder : List (List ℕ × ℕ) → List (ℕ × List ℕ) → Type 0
 AreInOrder carried order = (uid : List ℕ) (tick : ℕ) → tick_at carried uid ≡ Some tick → 0 < tick → Contains order (tick, uid)
 
+-- each UID is there once, and its move is among the moves, which are by tick
 pub record AreMoves (carried : List (List ℕ × ℕ)) (order : List (ℕ × List ℕ)) : Type 0 where
   pub sorted : IsStrictlySortedBy (slice_cmp nat_cmp) (keys_of carried)
   pub in_order : AreInOrder carried order
@@ -44,7 +45,7 @@ pub record AreMoves (carried : List (List ℕ × ℕ)) (order : List (ℕ × Lis
 abbrev pub AreTicks : List (List ℕ × ℕ) → Type 0
 AreTicks carried = (uid : List ℕ) (tick : ℕ) → tick_at carried uid ≡ Some tick → 0 < tick
 
--- each UID carries an earlier tick than this
+-- each UID that is here carries an earlier tick than this, or none yet
 abbrev pub AreBefore : ℕ → List (List ℕ × ℕ) → Type 0
 AreBefore next carried = (uid : List ℕ) (tick : ℕ) → tick_at carried uid ≡ Some tick → tick < next
 

@@ -1,5 +1,6 @@
 //! A desk.
-ghost use Rattle.std.specs.Prelude.{◌≡◌, ◌<◌, ◌≤◌, ◌↔◌, ◌⊎◌, [], ◌++◌, ◌∷◌, IfOk, OnOk, OnErr, IsOk, MatchBool, length, map, min, unwrap_or, List, ℕ, IsErrOf};
+ghost use Rattle.std.specs.Prelude.{◌≡◌, ◌<◌, ◌≤◌, ◌↔◌, ◌⊎◌, [], ◌++◌, ◌∷◌, length, map, min, unwrap_or, List, ℕ};
+ghost use Rattle.std.specs.Prelude.{IfOk, OnOk, OnErr, IsOk, IsErrOf, MatchBool};
 ghost use Rattle.itip_items.specs.declared.item.Item.{Item};
 ghost use Rattle.itip_state.specs.Kept.{AreUidsOf};
 ghost use Rattle.itip_view.specs.declared.row.Row.{Row};

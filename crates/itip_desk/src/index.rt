@@ -97,7 +97,8 @@ fn put_lines(index: &mut Index, item: &SharedItem, uid: u32) -> Result<(), Alloc
 
 fn put_name(index: &mut Index, item: &SharedItem, uid: u32, attendee: u32) -> Result<(), AllocError>
     requires { uid ≡ uid_number (uid_of item.now.key) }
-    ensures ok { OnOk result ((e : IndexEntry) → has index.new e ≡ (has index.old e || same_entry e (of_name (name_entry item.now attendee)))) }
+    ensures ok { OnOk result ((e : IndexEntry) →
+        has index.new e ≡ (has index.old e || same_entry e (of_name (name_entry item.now attendee)))) }
     ensures err { OnErr result ((e : IndexEntry) → has index.new e ≡ has index.old e) }
 {
     let item = item.revision().copy()?;

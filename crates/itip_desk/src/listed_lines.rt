@@ -8,8 +8,8 @@ ghost use Rattle.itip_view.specs.TodoLines.{HasUnbrokenTexts, IsSmallNumber, tod
 ghost use Rattle.itip_view.specs.declared.row.Row.{Row};
 ghost use Rattle.itip_view.specs.declared.window.Window.{Window};
 
-/// The number in the head of a list is the number of its lines that begin with TODO, if each row is one of a view, or no text of a row has a
-/// line break, and both numbers fit into 64 bits (our own format).
+/// The number in the head of a list is the number of its lines that begin with TODO, if each row is one of a view, or no text of a row has
+/// a line break, and both numbers fit into 64 bits (our own format).
 pub fn heads_count_lines()
     ensures listed { (desk : ℕ) (rows : List Row) → IsSmallNumber desk → IsSmallNumber (length rows) →
         AllByRecursion HasUnbrokenTexts rows → todo_lines (listed_text desk rows) ≡ length rows }

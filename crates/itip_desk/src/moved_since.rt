@@ -15,17 +15,14 @@ use std::alloc::{AllocError, Global};
 use std::collections::BTreeMap;
 use std::marker::Model;
 
-/// The most bytes of a UID of which each move may hold a text of its own: looking at the text of `ticks` would cost more.
-const SHORT: usize = 64;
-
 /// The UIDs that moved, each with the tick of its last move.
 #[derive(Debug, Drop)]
 pub(crate) struct MovedUids {
     alloc: Global,
     /// The tick that each carries, or 0 for a place that carries nothing yet.
     ticks: BTreeMap<Uid, u64>,
-    /// The moves by tick. Earlier moves of a UID may be here too, and those of a take that was refused; they are passed over. A move of a
-    /// long UID shares the text of `ticks`.
+    /// The moves by tick, each of which shares the text of its UID in `ticks`. Earlier moves of a UID may be here too, and those of a take
+    /// that was refused; they are passed over.
     order: Vec<(u64, Uid)>,
 }
 
@@ -78,7 +75,8 @@ impl MovedUids {
         self.ticks.get(uid).copied()
     }
 
-    /// Allocates what these UIDs need to carry a tick. If an allocation fails, each carries what it did before.
+    /// Gives each of these UIDs a place and a move at this tick. If an allocation fails, each carries what it did before, and moves may stay
+    /// in the list until the next call.
     pub(crate) fn prepare(&mut self, uids: &[Uid], tick: u64) -> Result<(), AllocError>
         requires ticks { AreTicks self.old.carried }
         requires before { AreBefore tick self.old.carried }
@@ -86,6 +84,7 @@ impl MovedUids {
         ensures ready { OnOk result (AreReady uids.now tick self.new) }
         ensures err { OnErr result (self.new.carried ≡ self.old.carried) }
     {
+        // Before the cut, so that the room of a list that a refused take has made long is freed too.
         self.make_room(uids.len());
         // A take that was refused may have left moves at this tick.
         cut_at(&mut self.order, tick);
@@ -110,7 +109,7 @@ impl MovedUids {
         }
     }
 
-    /// Removes those of these UIDs that only have a place.
+    /// Takes back the places that [`MovedUids::prepare`] made: each UID carries what it did before it. The moves stay until its next call.
     pub(crate) fn take_places_back(&mut self, uids: &[Uid])
         ensures { (was : List (List ℕ × ℕ)) → IsStrictlySortedBy (slice_cmp nat_cmp) (keys_of was) → AreTicks was
             → HavePlaces uids.now was self.old.carried → self.new.carried ≡ was }
@@ -118,7 +117,7 @@ impl MovedUids {
         drop_places(&mut self.ticks, uids);
     }
 
-    /// Makes these UIDs carry the tick that they were prepared for.
+    /// Makes these UIDs carry the tick that they were prepared for. Others carry what they did before.
     pub(crate) fn mark(&mut self, uids: &[Uid], tick: u64)
         requires { AreReady uids.now tick self.old }
         ensures { (uid : List ℕ) → tick_at self.new.carried uid ≡ cond (is_listed uids.now uid) (Some tick) (tick_at self.old.carried uid) }
@@ -128,9 +127,10 @@ impl MovedUids {
         }
     }
 
-    /// The UIDs that carry a tick above `since`. Moves up to `since` are not looked at.
+    /// The UIDs that carry a tick above `since`. Of the moves up to `since` only those that a binary search asks are looked at.
     pub(crate) fn after(&self, since: u64) -> Result<Vec<&Uid>, AllocError>
-        ensures { IfOk result (λ uids. (uid : List ℕ) → Contains (map (λ u. u.now) uids.items) uid ↔ CarriesAfter self.now.carried since uid) }
+        ensures { IfOk result (λ uids. (uid : List ℕ) →
+            Contains (map (λ u. u.now) uids.items) uid ↔ CarriesAfter self.now.carried since uid) }
     {
         let mut uids = Vec::new(self.alloc);
         for (tick, uid) in moves_after(&self.order, since) {
@@ -141,7 +141,7 @@ impl MovedUids {
         Ok(uids)
     }
 
-    /// States what is always true: what the UIDs carry is sorted by UID, each once. It does nothing; a proof calls it to learn this.
+    /// States what is always true: what the UIDs carry is sorted by UID, each once. It does nothing; it is called so that a proof knows this.
     pub(crate) fn lawful(&self)
         ensures { IsStrictlySortedBy (slice_cmp nat_cmp) (keys_of self.now.carried) }
     {
@@ -207,8 +207,8 @@ fn put_moves(
     Ok(())
 }
 
-/// Makes a place for a UID if it has none, and returns the UID. One that is long is returned as it is in its place, so that only one copy
-/// of its text is held.
+/// Makes a place for a UID if it has none, and returns the UID as it is in its place, so that a move holds no other text. If it fails, the
+/// place may have been made.
 fn place(ticks: &mut BTreeMap<Uid, u64>, uid: &Uid) -> Result<Uid, AllocError>
     requires { IsOrdered (slice_cmp nat_cmp) ticks.old }
     ensures own { IfOk result (λ own. own ≡ uid.now) }
@@ -219,30 +219,18 @@ fn place(ticks: &mut BTreeMap<Uid, u64>, uid: &Uid) -> Result<Uid, AllocError>
     ensures placed { OnOk result (is_some (tick_at ticks.new.entries uid.now) ≡ true) }
 {
     if let Some((own, _)) = ticks.get_key_value(uid) {
-        return one_of_two(uid, own);
+        return Ok(own.clone()?);
     }
     ticks.insert(uid.clone()?, 0)?;
     Ok(uid.clone()?)
-}
-
-/// Of two equal UIDs the first if it is short, and else the second.
-fn one_of_two(uid: &Uid, own: &Uid) -> Result<Uid, AllocError>
-    requires { own.now ≡ uid.now }
-    ensures { IfOk result (λ one. one ≡ uid.now) }
-{
-    let one = if uid.as_str().len() <= SHORT {
-        uid
-    } else {
-        own
-    };
-    Ok(one.clone()?)
 }
 
 /// Removes those of these UIDs that only have a place.
 fn drop_places(ticks: &mut BTreeMap<Uid, u64>, uids: &[Uid])
     requires { IsOrdered (slice_cmp nat_cmp) ticks.old }
     ensures ordered { IsOrdered (slice_cmp nat_cmp) ticks.new }
-    ensures fewer { (uid : List ℕ) → (tick_at ticks.new.entries uid ≡ tick_at ticks.old.entries uid) ⊎ (tick_at ticks.new.entries uid ≡ None) }
+    ensures fewer { (uid : List ℕ) →
+        (tick_at ticks.new.entries uid ≡ tick_at ticks.old.entries uid) ⊎ (tick_at ticks.new.entries uid ≡ None) }
     ensures without { (was : List (List ℕ × ℕ)) → IsStrictlySortedBy (slice_cmp nat_cmp) (keys_of was) → AreTicks was
         → HavePlaces uids.now was ticks.old.entries → ticks.new.entries ≡ was }
 {

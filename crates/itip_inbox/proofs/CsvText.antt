@@ -1,6 +1,7 @@
 -- Records as they are written, and as a reader of comma-separated fields reads them.
 use Rattle.std.proofs.Common.{◌≡◌, ◌≤◌, ◌+◌, ◌-◌, ◌==◌, ◌||◌, ℕ, zero, suc, cond, false, List, [], ◌∷◌, ◌++◌, map, length}
-use Rattle.std.proofs.Common.{Option, Some, None, refl, sym, ap, ap₂, inl, inr, ◌∙◌, arith, append_assoc, append-nil, length-append, zero-add, suc-add}
+use Rattle.std.proofs.Common.{Option, Some, None, refl, sym, ap, ap₂, inl}
+use Rattle.std.proofs.Common.{inr, ◌∙◌, arith, append_assoc, append-nil, length-append, zero-add, suc-add}
 use Rattle.std.specs.List.{flat_map, list_any}
 use Rattle.std.proofs.lemmas.List.Concat.{flat_map-append}
 use Rattle.std.proofs.lemmas.Bool.{cases_Bool, eqb-true}
@@ -13,7 +14,8 @@ use Rattle.csv.proofs.RoundTrip.{read-write, rows_text}
 use Rattle.itip_view.specs.declared.row.Row.{Row}
 use Rattle.itip_view.specs.declared.row.ShownAttendee.{ShownAttendee}
 use Rattle.itip_view.proofs.FlatMap.{then_more}
-use Rattle.itip_inbox.specs.Csv.{is_special, doubled, field_text, field_behind, fields_behind, record_text, records_text, csv_text, field_names}
+use Rattle.itip_inbox.specs.Csv.{is_special, doubled, field_text, field_behind, fields_behind}
+use Rattle.itip_inbox.specs.Csv.{record_text, records_text, csv_text, field_names}
 use Rattle.itip_inbox.specs.Csv.{record_of, records_for, records_of, records_of_rows, attendee_record_text, row_records_text}
 use Rattle.itip_inbox.specs.Csv.{name_fields, number_fields, date_fields, last_fields, attendee_fields}
 use Rattle.itip_inbox.proofs.Pieces.{join_five}
@@ -130,7 +132,8 @@ unfolding records_from next_record
 nothing_left zero = refl
 nothing_left (suc n) = refl
 
-read_more : (all : List (List (List ℕ))) (n : ℕ) → records_from default_config (length all + n) st.StartRecord (rows_text all) ≡ map read_back all
+read_more : (all : List (List (List ℕ))) (n : ℕ) → records_from default_config (length all + n) st.StartRecord
+    (rows_text all) ≡ map read_back all
 unfolding records_from rows_text
 read_more [] n = rw zero-add (nothing_left n)
 read_more (one ∷ all) n =

@@ -1,5 +1,6 @@
 -- Messages that are heard or refused, one after another.
-use Rattle.std.proofs.Common.{◌≡◌, ◌∙◌, sym, ap, refl, ℕ, suc, ◌+◌, map, List, [], ◌∷◌, ◌++◌, length, subst, arith, append_assoc, append-nil, Option}
+use Rattle.std.proofs.Common.{◌≡◌, ◌∙◌, sym, ap, refl, ℕ, suc, ◌+◌, map, List}
+use Rattle.std.proofs.Common.{[], ◌∷◌, ◌++◌, length, subst, arith, append_assoc, append-nil, Option}
 use Rattle.std.proofs.lemmas.List.{length-append}
 use Rattle.itip_explain.specs.declared.told.ToldItem.{ToldItem}
 use Rattle.itip_items.specs.declared.item.Item.{Item}
@@ -17,7 +18,8 @@ use Rattle.itip_inbox.specs.Streaming.{KeepsMessages, TellBeside, Tells, HasGot,
 use Rattle.itip_inbox.specs.declared.texts.Heard.{Heard}
 use Rattle.itip_inbox.specs.declared.waiting.Waiting.{Waiting}
 use Rattle.itip_message.specs.Scanned.{messages_of}
-use Rattle.itip_inbox.proofs.Answered.{hears_none, hears_items, hears_refusal, hears_both, tells_none, tells_items, tells_refusal, tells_both}
+use Rattle.itip_inbox.proofs.Answered.{hears_none, hears_items, hears_refusal, hears_both}
+use Rattle.itip_inbox.proofs.Answered.{tells_none, tells_items, tells_refusal, tells_both}
 use Rattle.itip_inbox.proofs.Keeping.{news_both, keeps_more}
 use Rattle.itip_inbox.proofs.Behind.{beside_behind}
 

@@ -157,5 +157,6 @@ module _ (rows : List Row) where
 pub array_line : (rows : List Row) → json_text rows ≡ array_text rows ++ codes "\n"
 array_line [] = refl
 array_line (row ∷ rows) =
-    ap (λ (t : List ℕ). codes "[\n" ++ (object_text row ++ t)) (sym (append_assoc (flat_map object_behind rows) (codes "\n]") (codes "\n"))) ∙
+    ap (λ (t : List ℕ). codes "[\n" ++ (object_text row ++ t)) (sym
+    (append_assoc (flat_map object_behind rows) (codes "\n]") (codes "\n"))) ∙
     ap (λ (t : List ℕ). codes "[\n" ++ t) (sym (append_assoc (object_text row) (flat_map object_behind rows ++ codes "\n]") (codes "\n")))

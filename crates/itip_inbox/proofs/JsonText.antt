@@ -1,5 +1,6 @@
 -- Objects as they are written, and as they are read.
-use Rattle.std.proofs.Common.{◌≡◌, ◌==◌, true, false, ◌≤◌, ◌-◌, ℕ, length, take, drop, get_or, take_all, ap₂, List, [], ◌∷◌, ◌++◌, map, refl, sym, ap, subst, ◌∙◌, arith, append_assoc}
+use Rattle.std.proofs.Common.{◌≡◌, ◌==◌, true, false, ◌≤◌, ◌-◌, ℕ, length, take, drop, get_or, take_all, ap₂}
+use Rattle.std.proofs.Common.{List, [], ◌∷◌, ◌++◌, map, refl, sym, ap, subst, ◌∙◌, arith, append_assoc}
 use Rattle.std.proofs.Common.{Option, Some, None}
 use Rattle.std.specs.Prelude.{codes, option_map}
 use Rattle.std.specs.List.{flat_map}
@@ -21,7 +22,8 @@ use Rattle.itip_view.specs.declared.by_uid.RowsByUid.{RowsByUid}
 use Rattle.itip_view.specs.declared.row.Row.{Row}
 use Rattle.itip_view.specs.declared.row.ShownAttendee.{ShownAttendee}
 use Rattle.itip_view.proofs.FlatMap.{then_more}
-use Rattle.itip_inbox.specs.Json.{Member, members_of, items_of, number_json, text_json, attendee_object, row_object, object_text, object_behind}
+use Rattle.itip_inbox.specs.Json.{Member, members_of, items_of, number_json, text_json}
+use Rattle.itip_inbox.specs.Json.{attendee_object, row_object, object_text, object_behind}
 use Rattle.itip_inbox.specs.Json.{json_text, attendee_members}
 use Rattle.itip_inbox.specs.Csv.{row_name}
 use Rattle.itip_inbox.specs.JsonTokens.{named_tokens, attendee_tokens, member_tokens, opened_text, IsFrontOf}
@@ -56,7 +58,8 @@ object_written a b c d old t0 t1 t2 t3 t4 new first one two three four last =
     then_more t1 t2 new (named_tokens b) (named_tokens c ++ (named_tokens d ++ end)) two third in
     let whole : new ≡ t0 ++ (named_tokens a ++ (named_tokens b ++ (named_tokens c ++ (named_tokens d ++ end)))) =
     then_more t0 t1 new (named_tokens a) (named_tokens b ++ (named_tokens c ++ (named_tokens d ++ end))) one second in
-    then_more old t0 new (begin_object ∷ []) (named_tokens a ++ (named_tokens b ++ (named_tokens c ++ (named_tokens d ++ end)))) first whole ∙
+    then_more old t0 new (begin_object ∷ []) (named_tokens a ++ (named_tokens b ++ (named_tokens c ++ (named_tokens d ++ end)))) first
+    whole ∙
     ap (λ (t : List Token). old ++ begin_object ∷ t)
     (join_four member_tokens a b c d end ∙ sym (members_are (a ++ (b ++ (c ++ d)))))
 
@@ -179,7 +182,8 @@ pub front_part : (old new : RowsByUid) (some : List Row) → IsPart old new some
 front_part old new some part is_some all are =
     let split = part.splits all are in (split.0, split.1, split.2, λ none. absurd (is_some none))
 
-pub no_part : (old new : RowsByUid) (some : List Row) → IsPart old new some → some ≡ [] → (all : List Row) → AreLeft old all → AreLeft new all
+pub no_part : (old new : RowsByUid) (some : List Row) → IsPart old new some → some ≡ [] → (all : List Row) → AreLeft old all →
+    AreLeft new all
 no_part old new some part none all are =
     let split = part.splits all are in
     subst (λ (rows : List Row). AreLeft new rows) (sym (split.2 ∙ ap (λ (rows : List Row). rows ++ split.0) none)) split.1

@@ -1,5 +1,6 @@
 -- The digits of a number are a number of JSON (RFC 8259 6).
-use Rattle.std.proofs.Common.{◌≡◌, ◌<◌, ◌+◌, ◌^◌, ℕ, zero, suc, cond, List, [], ◌∷◌, length, map, drop, get_or, Some, option_and_then, decimal, refl, ap, ◌∙◌, arith}
+use Rattle.std.proofs.Common.{◌≡◌, ◌<◌, ◌+◌, ◌^◌, ℕ, zero, suc, cond, List, [], ◌∷◌}
+use Rattle.std.proofs.Common.{length, map, drop, get_or, Some, option_and_then, decimal, refl, ap, ◌∙◌, arith}
 use Rattle.std.specs.Char.{is_ascii_digit}
 use Rattle.std.specs.Int.Digits.{AllBelowBase, digits_of}
 use Rattle.std.specs.List.{prefix_len}

@@ -148,7 +148,8 @@ pub back_whole : {X : Type 0} (news olds : List X) (long : ℕ) → long ≡ len
 back_whole {X} news olds long is same =
     let past : length olds ≤ length news = omega (arith, same) in
     let all : length news ≤ long = omega (arith, is, same) in
-    ap (λ (t : List X). take long (news ++ t)) (drop_all (length news) olds past) ∙ ap (take long) (append-nil news) ∙ take_all long news all
+    ap (λ (t : List X). take long (news ++ t)) (drop_all (length news) olds past) ∙ ap (take long) (append-nil news) ∙
+    take_all long news all
 
 module _ (olds news : List Shard) (items : List Item) (are : AreSharded olds) (many : length news ≡ length olds)
     (each : (n : ℕ) (d : Shard) → n < length olds →

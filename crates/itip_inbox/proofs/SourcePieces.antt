@@ -32,7 +32,8 @@ pub pieces_one : (xs : List Piece) (x : Piece) → pieces_from 0 (xs ++ x ∷ []
     pieces_from 0 xs ++ placed_from x.source (count_before (count_behind 0 xs) x + 1) (texts_of x)
 pieces_one xs x =
     pieces_both 0 xs (x ∷ []) ∙
-    ap (λ (ms : List Placed). pieces_from 0 xs ++ ms) (append-nil (placed_from x.source (count_before (count_behind 0 xs) x + 1) (texts_of x)))
+    ap (λ (ms : List Placed). pieces_from 0 xs ++ ms) (append-nil (placed_from x.source (count_before (count_behind 0 xs) x + 1)
+    (texts_of x)))
 
 -- ---- a source is cut
 
@@ -70,7 +71,8 @@ module _ (old now : List Piece) (source : ℕ) (octets rest : List ℕ) (is_firs
   piece_more : pieces_from 0 (now ++ piece ∷ []) ≡ pieces_from 0 old ++ placed_from source 1 (so_far.texts ++ texts_of piece)
   piece_more =
       pieces_one now piece ∙
-      ap (λ (ms : List Placed). ms ++ placed_from piece.source (count_before (count_behind 0 now) piece + 1) (texts_of piece)) so_far.pieces ∙
+      ap (λ (ms : List Placed). ms ++ placed_from piece.source (count_before (count_behind 0 now) piece + 1) (texts_of piece))
+      so_far.pieces ∙
       placed_on (pieces_from 0 old) source 0 piece.source (count_before (count_behind 0 now) piece) so_far.texts (texts_of piece) of counted
 
   pub cut_more : (back : List ℕ) → StaysParted rest piece.octets.now back → CutSoFar old (now ++ piece ∷ []) source octets back false

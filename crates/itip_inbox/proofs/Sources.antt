@@ -38,7 +38,8 @@ placed_push source (first ∷ all) texts =
 
 module _ {R : Type 0} (remaining : R → Option (List ℕ)) (about : Option (List ℕ)) where
   -- no input is heard yet
-  pub turn_begins : (sources left : List R) (inputs : List (List ℕ)) (inbox : OpenInbox) → left ≡ sources → AreInputs remaining sources inputs →
+  pub turn_begins : (sources left : List R) (inputs : List (List ℕ)) (inbox : OpenInbox) → left ≡ sources →
+      AreInputs remaining sources inputs →
       HasGot about [] inbox → inbox.source ≡ 0 → HearsInTurn remaining about inputs left inbox
   turn_begins sources left inputs inbox same are keeps is = record {
     done = [];
@@ -131,7 +132,8 @@ holds_closed inputs kept whole refusals same holds all is =
     })
 
 -- and so are the messages, whatever they are
-pub heard_closed : (about : Option (List ℕ)) (kept whole : List Item) (refusals same : List RefusedMessage) (told followed : List ToldItem) →
+pub heard_closed : (about : Option (List ℕ)) (kept whole : List Item) (refusals same : List RefusedMessage)
+    (told followed : List ToldItem) →
     HasHeard about kept refusals told → AreKept whole kept → same ≡ refusals → followed ≡ told → HasHeard about whole same followed
 heard_closed about kept whole refusals same told followed has all refusals_are told_are = record {
   messages = has.messages;

@@ -1,5 +1,6 @@
 -- Refused messages in few bytes each: their causes, and where they were, as numbers (our own form).
-use Rattle.std.specs.Prelude.{◌≡◌, ℕ, ◌^◌, ◌<◌, ◌==◌, nat_le, ◌||◌, List, [], ◌∷◌, ◌++◌, drop, slice_index, Option, Some, None, Bool, true, false}
+use Rattle.std.specs.Prelude.{◌≡◌, ℕ, ◌^◌, ◌<◌, ◌==◌, nat_le, ◌||◌, List, [], ◌∷◌}
+use Rattle.std.specs.Prelude.{◌++◌, drop, slice_index, Option, Some, None, Bool, true, false}
 use Rattle.std.specs.Option.{option_to_list, IfSome}
 use Rattle.std.specs.List.{AllByRecursion}
 use Rattle.itip_message.specs.declared.error.MessageCause.{MessageCause}

@@ -175,7 +175,8 @@ fn line_count(todo: &Todo) -> usize
 fn single_count(todo: &Todo) -> usize
     ensures count { result ≡ 3 + one_if (is_some todo.now.base) + one_if (is_some todo.now.rid) + one_if (is_some todo.now.start) + one_if
         (is_some todo.now.due) + one_if (is_some todo.now.status)
-        + one_if (is_some todo.now.percent) + one_if (is_some todo.now.priority) + one_if (is_some todo.now.summary) + one_if (is_some todo.now.organizer) }
+        + one_if (is_some todo.now.percent) + one_if (is_some todo.now.priority) + one_if (is_some todo.now.summary)
+        + one_if (is_some todo.now.organizer) }
 {
     3 + one_if(todo.base.is_some())
         + one_if(todo.rid.is_some())

@@ -99,7 +99,8 @@ lawful_values text (v ∷ (w ∷ vs)) rest u h e =
     let more = lawful_values h.0 (w ∷ vs) rest (utf8_behind 44 h.0 (utf8_value text v (44 ∷ h.0) u cut).1 (omega arith)) h.2 e in
     (omega arith, (lawful_value text v (44 ∷ h.0) u cut, more.1), more.2)
 
-pub lawful_tail : (text : List ℕ) (ps : List Param) (value : List ℕ) → IsUtf8 text → IsTail text ps value → AllByRecursion IsLawfulParam ps ×
+pub lawful_tail : (text : List ℕ) (ps : List Param) (value : List ℕ) → IsUtf8 text → IsTail text ps value →
+    AllByRecursion IsLawfulParam ps ×
     IsUtf8 value × IsTrue (list_all is_value_octet value)
 lawful_tail text [] value u h = (tt, utf8_behind 58 value (subst IsUtf8 h.0 u) (omega arith), h.1)
 lawful_tail text (p ∷ ps) value u h =

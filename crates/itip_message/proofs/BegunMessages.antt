@@ -9,7 +9,8 @@ use Rattle.std.proofs.lemmas.List.{length-append}
 use Rattle.std.proofs.lemmas.List.Folds.{list_all-append}
 use Rattle.itip_lines.specs.UnfoldedLines.{is_blank}
 use Rattle.itip_todo.specs.Participation.{same_text}
-use Rattle.itip_message.specs.Scanned.{begins_blank, ends_line, line_length, lines_of, is_return, said, said_behind, is_empty, ends_calendar}
+use Rattle.itip_message.specs.Scanned.{begins_blank, ends_line, line_length, lines_of, is_return}
+use Rattle.itip_message.specs.Scanned.{said, said_behind, is_empty, ends_calendar}
 use Rattle.itip_message.specs.Scanned.{groups_of, texts_of, messages_of, StaysCut}
 use Rattle.itip_message.specs.Passing.{is_left_out, Passes, StaysPassing}
 use Rattle.itip_message.specs.Begun.{IsBegun, DifferInFirst, StandsIn, SaysTheSame, something_else, IsSaid, PassesLine}
@@ -61,7 +62,8 @@ groups_differ least (line ∷ lines) ls ms none others same within =
     DifferInFirst least (texts_of (groups_of (ls ++ line ∷ lines))) (texts_of (groups_of (ms ++ line ∷ lines)))) [
       | true ↦ λ ends. rw (texts_end ls line lines none ends, texts_end ms line lines others ends) (longer least ls line within, refl)
       | false ↦ λ not_end.
-          let goes_on : DifferInFirst least (texts_of (groups_of ((ls ++ line ∷ []) ++ lines))) (texts_of (groups_of ((ms ++ line ∷ []) ++ lines))) =
+          let goes_on : DifferInFirst least (texts_of (groups_of ((ls ++ line ∷ []) ++ lines)))
+          (texts_of (groups_of ((ms ++ line ∷ []) ++ lines))) =
           groups_differ least lines (ls ++ line ∷ []) (ms ++ line ∷ []) (none_ends_more ls line none not_end)
           (none_ends_more ms line others not_end) (empty_more ls ms line line same refl) (longer least ls line within) in
           subst (λ (t : List (List ℕ)). DifferInFirst least (texts_of (groups_of t)) (texts_of (groups_of (ms ++ line ∷ lines))))
@@ -80,7 +82,8 @@ lines_differ least lines ls ms l m none others same ends empty within =
     DifferInFirst least (texts_of (groups_of (ls ++ l ∷ lines))) (texts_of (groups_of (ms ++ m ∷ lines)))) [
       | true ↦ λ is_end. rw (texts_end ls l lines none is_end, texts_end ms m lines others (sym ends ∙ is_end)) (within, refl)
       | false ↦ λ not_end.
-          let goes_on : DifferInFirst least (texts_of (groups_of ((ls ++ l ∷ []) ++ lines))) (texts_of (groups_of ((ms ++ m ∷ []) ++ lines))) =
+          let goes_on : DifferInFirst least (texts_of (groups_of ((ls ++ l ∷ []) ++ lines)))
+          (texts_of (groups_of ((ms ++ m ∷ []) ++ lines))) =
           groups_differ least lines (ls ++ l ∷ []) (ms ++ m ∷ []) (none_ends_more ls l none not_end)
           (none_ends_more ms m others (sym ends ∙ not_end)) (empty_more ls ms l m same empty) within in
           subst (λ (t : List (List ℕ)). DifferInFirst least (texts_of (groups_of t)) (texts_of (groups_of (ms ++ m ∷ lines))))
@@ -142,7 +145,8 @@ left_said : (b : ℕ) (behind : Bool) (after more : List ℕ) → 0 < length aft
     said_behind behind (b ∷ (after ++ more)) ≡ said_behind (b == 10) (after ++ more)
 left_said b behind after more some out =
     elim (b == 10) as (λ (t : Bool). (t || is_return b after || (behind && is_blank b)) ≡ true →
-    cond t (said_behind true (after ++ more)) (cond (is_return b (after ++ more) || (behind && is_blank b)) (said_behind false (after ++ more))
+    cond t (said_behind true (after ++ more)) (cond (is_return b (after ++ more) || (behind && is_blank b))
+    (said_behind false (after ++ more))
     (b ∷ said_behind false (after ++ more))) ≡ said_behind t (after ++ more)) [
       | true ↦ λ h. refl
       | false ↦ λ h. ap (λ (t : Bool). cond (t || (behind && is_blank b)) (said_behind false (after ++ more))
@@ -154,7 +158,8 @@ kept_said : (b : ℕ) (behind : Bool) (after more : List ℕ) → 0 < length aft
     said_behind behind (b ∷ (after ++ more)) ≡ b ∷ said_behind (b == 10) (after ++ more)
 kept_said b behind after more some kept =
     elim (b == 10) as (λ (t : Bool). (t || is_return b after || (behind && is_blank b)) ≡ false →
-    cond t (said_behind true (after ++ more)) (cond (is_return b (after ++ more) || (behind && is_blank b)) (said_behind false (after ++ more))
+    cond t (said_behind true (after ++ more)) (cond (is_return b (after ++ more) || (behind && is_blank b))
+    (said_behind false (after ++ more))
     (b ∷ said_behind false (after ++ more))) ≡ b ∷ said_behind t (after ++ more)) [
       | true ↦ λ h. absurd cc
       | false ↦ λ h. ap (λ (t : Bool). cond (t || (behind && is_blank b)) (said_behind false (after ++ more))
@@ -203,7 +208,8 @@ said_plain text (inr is) = plain_front text is.0 (subst IsPlain is.1 (plain_all 
 plain_said : (text more : List ℕ) → IsPlain text → said_behind false (text ++ more) ≡ text ++ said_behind false more
 plain_said [] more plain = refl
 plain_said (b ∷ text) more plain =
-    ap (λ (t : Bool). cond t (said_behind true (text ++ more)) (cond (is_return b (text ++ more) || false) (said_behind false (text ++ more))
+    ap (λ (t : Bool). cond t (said_behind true (text ++ more)) (cond (is_return b (text ++ more) || false)
+    (said_behind false (text ++ more))
     (b ∷ said_behind false (text ++ more)))) plain.0.0 ∙
     ap (λ (t : Bool). cond (t || false) (said_behind false (text ++ more)) (b ∷ said_behind false (text ++ more)))
     (no_return b (text ++ more) plain.0.1) ∙ ap (λ (t : List ℕ). b ∷ t) (plain_said text more plain.1)
@@ -234,7 +240,8 @@ break_said false rest = refl
 stand_says : (text : List ℕ) (behind : Bool) (rest : List ℕ) → IsPlain text →
     said (stand_line text behind ++ rest) ≡ text ++ said_behind behind rest
 stand_says text behind rest plain =
-    fold_said ((text ++ break_before behind) ++ rest) ∙ ap (λ (t : List ℕ). said_behind false t) (append_assoc text (break_before behind) rest) ∙
+    fold_said ((text ++ break_before behind) ++ rest) ∙ ap (λ (t : List ℕ). said_behind false t)
+    (append_assoc text (break_before behind) rest) ∙
     plain_said text (break_before behind ++ rest) plain ∙ ap (λ (t : List ℕ). text ++ t) (break_said behind rest)
 
 -- ---- passing the bytes of a line
@@ -318,7 +325,8 @@ first_line_of last more =
 
 -- the few bytes as they are cut
 few_passes : (all_empty : Bool) (text : List ℕ) (behind : Bool) (last : ℕ) (more : List ℕ) →
-    Passes ((((begun_line all_empty ++ text) ++ break_before behind) ++ last ∷ []) ++ more) (stand_line text behind ++ (last ∷ more)) all_empty
+    Passes ((((begun_line all_empty ++ text) ++ break_before behind) ++ last ∷ []) ++ more)
+    (stand_line text behind ++ (last ∷ more)) all_empty
 few_passes true text behind last more =
     subst (λ (t : List ℕ). Passes t (stand_line text behind ++ (last ∷ more)) true)
     (sym (append_assoc (stand_line text behind) (last ∷ []) more)) (start_passing (stand_line text behind ++ (last ∷ more)))
@@ -354,7 +362,8 @@ module _ (octets line text : List ℕ) (all_empty behind : Bool) (last : ℕ) (b
       let e : length line ≡ length front.before + 1 = ap length front.whole ∙ length-append front.before (last ∷ []) in
       let f : length (concat (passed ++ (front.before ++ (last ∷ more_line)) ∷ [])) ≡
       length (concat passed) + length (front.before ++ (last ∷ more_line)) =
-      ap length (concat_push passed (front.before ++ (last ∷ more_line))) ∙ length-append (concat passed) (front.before ++ (last ∷ more_line)) in
+      ap length (concat_push passed (front.before ++ (last ∷ more_line))) ∙
+      length-append (concat passed) (front.before ++ (last ∷ more_line)) in
       let g : length (front.before ++ (last ∷ more_line)) ≡ length front.before + suc (length more_line) =
       length-append front.before (last ∷ more_line) in
       let h : length (octets ++ more) ≡ length (concat passed ++ (line ++ more)) = ap length is in
@@ -497,7 +506,8 @@ module _ (octets line : List ℕ) (all_empty : Bool) (begun : StaysPassing octet
         let came = begun more in
         let last : List ℕ = line ++ more in
         let says : (ends_calendar last ≡ false) × (is_empty last ≡ false) =
-        subst (λ (t : List ℕ). (ends_calendar t ≡ false) × (is_empty t ≡ false)) (append_assoc line front (88 ∷ [])) (x_line (line ++ front)) in
+        subst (λ (t : List ℕ). (ends_calendar t ≡ false) × (is_empty t ≡ false)) (append_assoc line front (88 ∷ []))
+        (x_line (line ++ front)) in
         let lines : lines_of (octets ++ more) ≡ came.passed ++ last ∷ [] =
         came.lines ∙ ap (λ (ls : List (List ℕ)). came.passed ++ ls) (one_line line more whole blank one) in
         let some : list_all is_empty (came.passed ++ last ∷ []) ≡ false =

@@ -1,5 +1,6 @@
 -- What the lines of a to-do that a program makes give.
-use Rattle.std.proofs.Common.{◌≡◌, ◌∙◌, refl, sym, ap, subst, ℕ, suc, ◌+◌, ◌<◌, List, [], ◌∷◌, ◌++◌, length, map, take, get_or, IsTrue, arith}
+use Rattle.std.proofs.Common.{◌≡◌, ◌∙◌, refl, sym, ap, subst, ℕ, suc, ◌+◌, ◌<◌}
+use Rattle.std.proofs.Common.{List, [], ◌∷◌, ◌++◌, length, map, take, get_or, IsTrue, arith}
 use Rattle.std.proofs.Common.{true, Result, Ok, Err}
 use Rattle.std.specs.Prelude.{codes}
 use Rattle.std.specs.Result.{OnOk, IfErr}
@@ -126,7 +127,8 @@ item_given given todo all items item reads is h one = record {
 -- an item that is too large is refused as that of a message
 pub item_too_large : (e : FormError) (given : List NumberedLine) (todo : Todo) (all : List Todo) →
     todo_reading.ReadsTodo (plain_lines given) todo → all ≡ todo ∷ [] →
-    IfTooLarge e (FirstOver 1 (drafts_each method.Request (map parts_of all) (map parts_of all))) → IfRefused (form_gives e) (RefusesItem given)
+    IfTooLarge e (FirstOver 1 (drafts_each method.Request (map parts_of all) (map parts_of all))) →
+    IfRefused (form_gives e) (RefusesItem given)
 item_too_large form_error.NoMemory given todo all reads is h = tt
 item_too_large (form_error.TooLarge number) given todo all reads is h =
     too_large todo number reads

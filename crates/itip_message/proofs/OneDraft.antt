@@ -1,5 +1,6 @@
 -- A text is either one draft or refused for one cause.
-use Rattle.std.proofs.Common.{◌≡◌, ◌∙◌, sym, ap, refl, ℕ, true, false, cond, List, length, drop, map, subst, inl, inr, ◌⊎◌, Some, None, Ok, Err}
+use Rattle.std.proofs.Common.{◌≡◌, ◌∙◌, sym, ap, refl, ℕ, true, false, cond, List, length}
+use Rattle.std.proofs.Common.{drop, map, subst, inl, inr, ◌⊎◌, Some, None, Ok, Err}
 use Rattle.std.specs.Prelude.{Result, nat_lt, codes}
 use Rattle.itip_lines.specs.Reading as lines
 use Rattle.itip_lines.specs.declared.error.LineRefusal.{LineRefusal}

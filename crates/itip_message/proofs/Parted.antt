@@ -5,7 +5,8 @@ use Rattle.std.specs.Prelude.{◌==◌}
 use Rattle.std.specs.List.{onto_first, concat, list_all}
 use Rattle.std.proofs.lemmas.Bool.{and_parts, eqb-true}
 use Rattle.std.proofs.lemmas.List.{append_cancel_right, length-append, take_at}
-use Rattle.itip_message.specs.Scanned.{begins_blank, ends_line, line_length, lines_of, is_empty, ends_calendar, groups_of, texts_of, messages_of}
+use Rattle.itip_message.specs.Scanned.{begins_blank, ends_line, line_length, lines_of, is_empty}
+use Rattle.itip_message.specs.Scanned.{ends_calendar, groups_of, texts_of, messages_of}
 use Rattle.itip_message.specs.Passing.{StaysFirstLine}
 use Rattle.itip_message.specs.Parting.{StaysParted, ClosesLine, IsAtLine}
 use Rattle.itip_message.proofs.FirstLines.{lines_first}

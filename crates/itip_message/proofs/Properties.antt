@@ -99,7 +99,8 @@ pub and_true : (a b : Bool) → a ≡ true → b ≡ true → (a && b) ≡ true
 and_true true b h k = k
 and_true false b h k = absurd (cc)
 
-pub properties_more : (lines : List NumberedLine) (line : NumberedLine) → AreProperties (plain_lines lines) → IsTrue (is_property line.line) →
+pub properties_more : (lines : List NumberedLine) (line : NumberedLine) → AreProperties (plain_lines lines) →
+    IsTrue (is_property line.line) →
     AreProperties (plain_lines (lines ++ line ∷ []))
 properties_more [] line h k = and_true (is_property line.line) true k refl
 properties_more (x ∷ lines) line h k = let p = and_parts _ _ h in

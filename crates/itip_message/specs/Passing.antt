@@ -18,7 +18,7 @@ StaysFirstLine bytes line after = (more : List ℕ) → IsFirstLine (bytes ++ mo
 abbrev pub is_left_out : ℕ → Bool → List ℕ → Bool
 is_left_out b behind after = b == 10 || is_return b after || (behind && is_blank b)
 
--- the first byte that a line says, and what follows it
+-- the first byte that a line says, and fewer bytes, which say the rest
 pub record SaysFirst (line : List ℕ) (b : ℕ) (after : List ℕ) : Type 0 where
   pub said : said line ≡ b ∷ said after
   pub shorter : length after < length line

@@ -159,7 +159,7 @@ fn says(line: &[u8], word: &[u8]) -> bool
     left.is_empty()
 }
 
-/// The first byte that a line says, and what follows it.
+/// The first byte that a line says, and what follows it; `None` if it says nothing.
 fn first_said(line: &[u8]) -> Option<(u8, &[u8])>
     ensures { MatchOption result (said line.now ≡ []) (λ cut. SaysFirst line.now cut.0 cut.1.now) }
 {
@@ -171,6 +171,7 @@ fn first_said(line: &[u8]) -> Option<(u8, &[u8])>
     }
 }
 
+/// The same as [`first_said`], byte by byte.
 fn search_said(line: &[u8]) -> Option<(u8, &[u8])>
     ensures { MatchOption result (said line.now ≡ []) (λ cut. SaysFirst line.now cut.0 cut.1.now) }
 {
@@ -186,7 +187,7 @@ fn search_said(line: &[u8]) -> Option<(u8, &[u8])>
     None
 }
 
-/// Whether a byte is part of a line break, or is the blank after one.
+/// Whether a byte is part of a line break, or is a blank, if `is_behind` says that a line break comes before it.
 pub(crate) fn is_left_out(b: u8, is_behind: bool, after: &[u8]) -> bool
     ensures { result ≡ is_left_out b is_behind after.now }
 {

@@ -1,5 +1,6 @@
 -- What a text spells beside a zone, and that one that spells no date, no date-time in UTC and no local one spells no moment.
-use Rattle.std.proofs.Common.{◌≡◌, ◌∙◌, refl, sym, ap, ℕ, ℤ, List, [], Bor, Option, Some, None, unwrap_or, IfSome, IfNone, IfOk, Result, Ok, Err}
+use Rattle.std.proofs.Common.{◌≡◌, ◌∙◌, refl, sym, ap, ℕ, ℤ, List, [], Bor}
+use Rattle.std.proofs.Common.{Option, Some, None, unwrap_or, IfSome, IfNone, IfOk, Result, Ok, Err}
 use Rattle.std.specs.Prelude.{option_copied}
 use Rattle.itip_moment.specs.declared.stamp.Stamp.{Stamp}
 use Rattle.itip_moment.specs.declared.moment.Moment.{Moment}
@@ -24,7 +25,8 @@ copied_or None default e = e
 copied_or (Some text) default e = refl
 
 -- the zone of a moment is named by TZID if this is the text of TZID
-named : (tzid : Option (List ℕ)) (text : List ℕ) (zone : Name) → text ≡ unwrap_or tzid [] → Some text ≡ Some zone.bytes → tzid ≡ Some zone.bytes
+named : (tzid : Option (List ℕ)) (text : List ℕ) (zone : Name) → text ≡ unwrap_or tzid [] → Some text ≡ Some zone.bytes →
+    tzid ≡ Some zone.bytes
 named None text zone e same = absurd (zone.not_empty (sym (Some-one same) ∙ e))
 named (Some tzid) text zone e same = ap Some (sym e ∙ Some-one same)
 

@@ -1,5 +1,6 @@
 -- Desks that were made side by side.
-use Rattle.std.proofs.Common.{◌≡◌, ℕ, zero, suc, ◌<◌, List, [], ◌∷◌, ◌++◌, length, take, map, All, refl, ap, sym, subst, ◌∙◌, arith, Result, Ok, Err}
+use Rattle.std.proofs.Common.{◌≡◌, ℕ, zero, suc, ◌<◌, List, [], ◌∷◌, ◌++◌, length, take}
+use Rattle.std.proofs.Common.{map, All, refl, ap, sym, subst, ◌∙◌, arith, Result, Ok, Err}
 use Rattle.std.specs.Prelude.{IfErr, slice_index_or}
 use Rattle.std.specs.List.{AllZip}
 use Rattle.std.proofs.lemmas.List.{length-map}
@@ -30,7 +31,8 @@ deltas_ok [] (b ∷ deltas) are = absurd are
 deltas_ok (d ∷ desks) [] are = absurd are
 deltas_ok (d ∷ desks) (b ∷ deltas) are = (are.0, deltas_ok desks deltas are.1)
 
-pub are_deltas : (desks : List Shown) (all : List (Result (List Item) OfficeError)) (deltas : List (List Item)) → length all ≡ length desks →
+pub are_deltas : (desks : List Shown) (all : List (Result (List Item) OfficeError)) (deltas : List (List Item)) →
+    length all ≡ length desks →
     ((i : ℕ) (d : Shown) (r : Result (List Item) OfficeError) → i < length desks
     → GivesDelta (slice_index_or desks i d) (slice_index_or all i r)) → all ≡ map Ok deltas → AreDeltasOf desks deltas
 are_deltas desks all deltas count each ok =

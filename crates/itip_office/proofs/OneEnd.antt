@@ -142,7 +142,8 @@ told : (jobs : List Job) (answers : List Answer) (replies : List (ℕ × Outcome
 told jobs answers replies are job outcome in_jobs in_replies =
     let found : HasAnswer answers job = answer_of answers job (Contains-permutation jobs (map job_of answers) job are.jobs_are in_jobs) in
     let reply : HasReply answers (job.number, outcome) =
-    replied answers (job.number, outcome) (subst (λ (l : List (ℕ × Outcome)). Contains l (job.number, outcome)) are.replies_are in_replies) in
+    replied answers (job.number, outcome) (subst (λ (l : List (ℕ × Outcome)). Contains l (job.number, outcome)) are.replies_are
+    in_replies) in
     let rise = AllPairs-from_increasing (map number_of answers) are.ascend in
     let numbers : number_of reply.answer ≡ number_of found.answer =
     ap (λ (p : ℕ × Outcome). p.0) reply.of_reply ∙ sym (ap (λ (j : Job). j.number) found.of_job) in

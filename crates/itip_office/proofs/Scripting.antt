@@ -60,7 +60,8 @@ long_front window desks old new r long front =
 
 pub ends_with : (window : Window) (desks : ℕ) (script : List ℕ) (jobs : List Job) (others refused : List (ℕ × Refusal))
     (replies : List (ℕ × Outcome)) (ended : List Shown) → jobs ≡ jobs_from window 0 (errands_of script)
-    → others ≡ others_from window 0 (errands_of script) → HasEnded desks jobs replies ended → IsPermutation (others ++ refused_of replies) refused →
+    → others ≡ others_from window 0 (errands_of script) → HasEnded desks jobs replies ended →
+    IsPermutation (others ++ refused_of replies) refused →
     IsNonDecreasingBy (λ (r : ℕ × Refusal). r.0) refused
     → EndsWith window desks (errands_of script) refused ended
 ends_with window desks script jobs others refused replies ended jobs_are others_are has_ended refused_are ascend = record {

@@ -22,7 +22,8 @@ use Rattle.itip_office.specs.Pairs.{HasKept}
 use Rattle.itip_office.proofs.Merging.{grew_shown_more}
 
 -- what is merely said to be brought is brought
-pub brought_of : (P : ℕ → List (List Item) → Type 0) (work : Work) (batch : List Item) → ∥ IsBrought P work batch ∥₁ → IsBrought P work batch
+pub brought_of : (P : ℕ → List (List Item) → Type 0) (work : Work) (batch : List Item) → ∥ IsBrought P work batch ∥₁ →
+    IsBrought P work batch
 brought_of P (Text desk bytes) batch is = tt
 brought_of P (Carry from to) batch is = ∥∥₁_elim is ∥∥₁_prop (λ b. b)
 brought_of P (Look desk window) batch is = tt
@@ -127,7 +128,8 @@ pub answered_together : (desks : ℕ) (sources more all : List Source) (answers 
 answered_together desks = all_together (IsAnswered desks) (λ P Q w a is. answered_wider P Q w desks a is)
 
 -- one more job that was merged, and what its carry had seen
-pub grew_shown_seen : (desk : ℕ) (sources more all : List Source) (old mid new : Option Keeper) (answers whole : List Answer) (answer : Answer)
+pub grew_shown_seen : (desk : ℕ) (sources more all : List Source) (old mid new : Option Keeper) (answers whole : List Answer)
+    (answer : Answer)
     (batch : List Item) → all ≡ sources ++ more
     → whole ≡ answers ++ answer ∷ [] → GrewShown desk (IsOneOf sources) old mid answers → AnswersMerged desk batch answer.0.work answer.1 →
     IsBrought (IsOneOf more) answer.0.work batch

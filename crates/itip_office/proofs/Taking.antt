@@ -149,7 +149,8 @@ last_text desk batch outcome (Carry from to) text merged batches none = absurd t
 last_text desk batch outcome (Look at window) text merged batches none = absurd text
 
 -- the last job takes no text
-last_other : (desk : ℕ) (batch : List Item) (outcome : Outcome) (work : Work) → (IsTook outcome → ⊥) → AnswersMerged desk batch work outcome →
+last_other : (desk : ℕ) (batch : List Item) (outcome : Outcome) (work : Work) → (IsTook outcome → ⊥) →
+    AnswersMerged desk batch work outcome →
     (batches : List (List Item)) → batches ≡ []
     → TextThen work (λ (l : List (List Item)). l ≡ []) batches
 last_other desk batch outcome (Text at bytes) not merged batches none = absurd (not (subst IsTook (sym merged.1) tt))
@@ -183,7 +184,8 @@ module _ (desk : ℕ) (old mid new : Shown) (answers : List Answer) (a : Answer)
   each : All (IsMerged desk) (answers ++ a ∷ [])
   each = All-push (IsMerged desk) answers a grew.each (batch, merged)
 
-  with_text : IsText a.0.work → ((steps : List (List Item)) (start : ℕ) → IsDeskOf steps start mid → IsDeskOf (steps ++ batch ∷ []) start new)
+  with_text : IsText a.0.work → ((steps : List (List Item)) (start : ℕ) → IsDeskOf steps start mid → IsDeskOf
+      (steps ++ batch ∷ []) start new)
       → GrewTexts desk old new (answers ++ a ∷ [])
   with_text text took = record {
     batches = grew.batches ++ batch ∷ [];

@@ -1,5 +1,6 @@
 -- When a report tells something, and so may ask for memory.
-use Rattle.std.proofs.Common.{◌≡◌, ◌∙◌, refl, sym, ap, ℕ, zero, suc, ◌<◌, List, [], ◌∷◌, ◌++◌, length, map, min, get_or, subst, inl, inr, Some, None, arith}
+use Rattle.std.proofs.Common.{◌≡◌, ◌∙◌, refl, sym, ap, ℕ, zero, suc, ◌<◌, List, [], ◌∷◌}
+use Rattle.std.proofs.Common.{◌++◌, length, map, min, get_or, subst, inl, inr, Some, None, arith}
 use Rattle.std.specs.Prelude.{◌≢◌, option_to_list}
 use Rattle.std.specs.List.{Contains, flat_map}
 use Rattle.std.specs.Option.{option_map}
@@ -93,7 +94,8 @@ none_reported report heard (item ∷ items) none are =
     absurd (nothing_reported report item
     (subst (λ (all : List Item). IsReported report all item) none (are.each item (cons_first item items))))
 
-pub reported_of_nothing : (report : Report) (heard items : List Item) → heard ≡ [] → items ≡ [] → AreReported (IsReported report heard) items
+pub reported_of_nothing : (report : Report) (heard items : List Item) → heard ≡ [] → items ≡ [] →
+    AreReported (IsReported report heard) items
 reported_of_nothing report heard items none empty = record {
   ascend = subst AscendPlaces (sym empty) (no_pairs (λ (a b : Item). place_cmp a.key b.key ≡ Less));
   each = λ item h. absurd (none_in item (subst (λ (its : List Item). Contains its item) empty h));
@@ -106,7 +108,8 @@ pub progress_there : (rows : List Row) (i : ℕ) (row : Row) (n : ℕ) → i < l
 progress_there rows i row n below is has = given_by_one progress_line rows i row below is (λ none. told row n has none)
   where
     told : (row : Row) (n : ℕ) → row.progress ≡ Some n → progress_line row ≡ [] → ⊥
-    told row n has none = absurd (let some : line_with row n ∷ [] ≡ [] = sym (ap (λ o. option_to_list (option_map (line_with row) o)) has) ∙ none in cc)
+    told row n has none = absurd (let some : line_with row n ∷ [] ≡ [] = sym (ap (λ o. option_to_list (option_map (line_with row) o)) has) ∙
+        none in cc)
 
 pub progress_at : (rows : List Row) (i : ℕ) (row : Row) (n : ℕ) → i < length rows → row ≡ get_or rows i row → row.progress ≡ Some n →
     progress_records rows ≢ []

@@ -10,7 +10,8 @@ use Rattle.itip_view.specs.Standing.{IsLiveSeries}
 use Rattle.itip_report.specs.Resending.{AreResent, AreStanding, IsResendOf}
 use Rattle.itip_report.proofs.SameOf.{SaySame, say_back, standing_there, live_there}
 
-standing_all_there : (uid : List ℕ) (x y : List Item) → SaySame uid x y → (items : List Item) → AreStanding x uid items → AreStanding y uid items
+standing_all_there : (uid : List ℕ) (x y : List Item) → SaySame uid x y → (items : List Item) → AreStanding x uid items →
+    AreStanding y uid items
 standing_all_there uid x y same items standing = record {
   ascend = standing.ascend;
   each = λ item h. standing_there uid x y same item (standing.each item h);

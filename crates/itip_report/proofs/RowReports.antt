@@ -31,7 +31,8 @@ module _ (asked : RowsByUid) (all : List Row) (lines : List (List ℕ)) (so_far 
         left = split.0;
         are_left = split.1;
         whole = so_far.whole ∙ ap (λ (t : List Row). so_far.done ++ t) split.2 ∙ sym (append_assoc so_far.done rows split.0);
-        told = grown_is ∙ ap (λ (t : List (List ℕ)). t ++ more) so_far.told ∙ ap (λ (t : List (List ℕ)). progress_lines so_far.done ++ t) more_is ∙
+        told = grown_is ∙ ap (λ (t : List (List ℕ)). t ++ more) so_far.told ∙
+            ap (λ (t : List (List ℕ)). progress_lines so_far.done ++ t) more_is ∙
             sym (flat_map-append progress_line so_far.done rows);
       }
 

@@ -1,6 +1,7 @@
 -- Rows are counted one attendee after another.
 use Rattle.std.proofs.Common.{◌≡◌, ◌+◌, ◌<◌, ◌≤◌, ◌==◌, ◌||◌, ℕ, suc, List, [], ◌∷◌, ◌++◌, refl, sym, ◌∙◌, ap, subst, map, length}
-use Rattle.std.proofs.Common.{take, drop, get_or, length-append, append-nil, append_assoc, min, Bool, true, false, Option, Some, None, arith}
+use Rattle.std.proofs.Common.{take, drop, get_or, length-append, append-nil, append_assoc, min}
+use Rattle.std.proofs.Common.{Bool, true, false, Option, Some, None, arith}
 use Rattle.std.specs.Prelude.{cond, filter}
 use Rattle.std.specs.List.{flat_map, list_any}
 use Rattle.std.specs.Map.{lookup}
@@ -148,7 +149,8 @@ module _ (done : List Row) (before : List (List ℕ)) (k : List ℕ) where
           only = tally.only;
         }
 
-    module _ (v : Tallied) (last : v.last ≡ length done) (counts' : Counts) (put : Updates (slice_cmp nat_cmp) counts counts' k (Some v)) where
+    module _ (v : Tallied) (last : v.last ≡ length done) (counts' : Counts)
+        (put : Updates (slice_cmp nat_cmp) counts counts' k (Some v)) where
       here_now : (q : List ℕ) → same_text k q ≡ true → found_at counts' q ≡ Some v
       here_now q same = put.0 q ∙ ap (λ b. cond b (Some v) (found_at counts q)) same
 
@@ -158,7 +160,8 @@ module _ (done : List Row) (before : List (List ℕ)) (k : List ℕ) where
       pub counted_first : (keys' : List (List ℕ)) → keys' ≡ keys ++ k ∷ [] → found_at counts k ≡ None → v.rows ≡ 1 →
           IsTally done (before ++ k ∷ []) keys' counts'
       counted_first keys' more none rows = record {
-        keys_are = more ∙ ap (λ ks. ks ++ k ∷ []) tally.keys_are ∙ sym (firsts_new (flat_map keys_in done ++ before) k absent) ∙ ap firsts assoc;
+        keys_are = more ∙ ap (λ ks. ks ++ k ∷ []) tally.keys_are ∙ sym (firsts_new (flat_map keys_in done ++ before) k absent) ∙
+            ap firsts assoc;
         counted = λ q h. by_bool (same_text k q)
             ((seen : Tallied) × (found_at counts' q ≡ Some seen) × IsCounted done (before ++ k ∷ []) q seen)
             (λ same. (
@@ -168,7 +171,8 @@ module _ (done : List Row) (before : List (List ℕ)) (k : List ℕ) where
                   (counted_now v (omega (arith, rows, nothing)) last),
             ))
             (λ apart.
-            let w = tally.counted q (sym (pushed q ∙ right_false (list_any (same_text q) keys) (same_text q k) (same_back q k ∙ apart)) ∙ h) in
+            let w = tally.counted q (sym (pushed q ∙ right_false (list_any (same_text q) keys) (same_text q k) (same_back q k ∙ apart)) ∙
+            h) in
             (w.0, as_before q apart ∙ w.1, other q w.0 apart w.2));
         only = λ q s e. by_bool (same_text k q) (list_any (same_text q) keys' ≡ true)
             (λ same. pushed q ∙ right_true (list_any (same_text q) keys) (same_text q k) (same_back q k ∙ same))
@@ -233,7 +237,8 @@ module _ (place : ℕ) (done : List Row) (before keys : List (List ℕ)) (counts
       by : (o : Option Tallied) → found_at counts k ≡ o → rows_before place o ≡ None → IsTally done (before ++ k ∷ []) keys counts
       by None found h = absurd (no_number 0 h)
       by (Some s) found h =
-          elim (s.last == place) as (λ b. (s.last == place) ≡ b → cond b None (Some s.rows) ≡ None → IsTally done (before ++ k ∷ []) keys counts) [
+          elim (s.last == place) as (λ b. (s.last == place) ≡ b → cond b None (Some s.rows) ≡ None → IsTally done
+          (before ++ k ∷ []) keys counts) [
             | true ↦ λ same g. counted_already done before k keys counts tally s found (equal_from s.last place same ∙ sym long)
             | false ↦ λ apart g. absurd (no_number s.rows g)
           ] refl h
@@ -241,7 +246,8 @@ module _ (place : ℕ) (done : List Row) (before keys : List (List ℕ)) (counts
   module _ (rows : ℕ) (v : Tallied) (so_far : rows_before place (found_at counts k) ≡ Some rows) (small : place < 18446744073709551615)
       (counted : v.rows ≡ min (rows + 1) 18446744073709551615) (last : v.last ≡ place) (counts' : Counts)
       (put : Updates (slice_cmp nat_cmp) counts counts' k (Some v)) where
-    earlier_one : (s : Tallied) → found_at counts k ≡ Some s → rows_before place (Some s) ≡ Some rows → (s.last ≡ length done → ⊥) × (s.rows ≡ rows)
+    earlier_one : (s : Tallied) → found_at counts k ≡ Some s → rows_before place (Some s) ≡ Some rows →
+        (s.last ≡ length done → ⊥) × (s.rows ≡ rows)
     earlier_one s found h =
         elim (s.last == place) as (λ b. (s.last == place) ≡ b → cond b None (Some s.rows) ≡ Some rows →
         (s.last ≡ length done → ⊥) × (s.rows ≡ rows)) [
@@ -333,7 +339,8 @@ rows_told rows keys counts tally i key below is =
         list_any-append (same_text key) (take (i + 1) keys) (drop (i + 1) keys) ∙
         ap (λ b. b || list_any (same_text key) (drop (i + 1) keys))
         (ap (list_any (same_text key)) (take_more keys i key below ∙ ap (λ (k : List ℕ). take i keys ++ k ∷ []) (sym is)) ∙
-        any_push (same_text key) (take i keys) key ∙ right_true (list_any (same_text key) (take i keys)) (same_text key key) (same_itself key))
+        any_push (same_text key) (take i keys) key ∙ right_true (list_any (same_text key) (take i keys)) (same_text key key)
+        (same_itself key))
 
 pub tally_lines : (rows : List Row) (keys : List (List ℕ)) (counts : Counts) → IsTally rows [] keys counts →
     map (load_line rows) keys ≡ load_lines rows

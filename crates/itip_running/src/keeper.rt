@@ -58,7 +58,8 @@ impl Keeper {
     #[tactic(auto, using(crate::proofs::Groups::prefix_batches))]
     pub fn has_published(&self, receipt: &Receipt) -> bool
         requires pair { receipt_pair receipt.now ≡ keeper_pair self.now }
-        ensures { IsTrue result → IsPrefix (publishes_told receipt.now) (publishes self.now) × IsPrefix (told receipt.now) (published self.now) }
+        ensures { IsTrue result →
+            IsPrefix (publishes_told receipt.now) (publishes self.now) × IsPrefix (told receipt.now) (published self.now) }
     {
         match &self.end {
             Some(end) => receipt.front.begins(&end.writer.published().front),

@@ -50,7 +50,8 @@ fn seats(
     ensures writer { (writer.new.desk.shown ≡ writer.old.desk.shown) × (writer.new.log ≡ writer.old.log)
         × (writer.new.behind ≡ writer.old.behind) }
     ensures count { IfOk result (λ ps. length ps.items ≡ passes) }
-    ensures each { IfOk result (λ ps. All (λ p. (publishes_seen p ≡ last.now.seen.log) × (pass_pair p ≡ Some last.now.seen.book)) ps.items) }
+    ensures each { IfOk result (λ ps.
+        All (λ p. (publishes_seen p ≡ last.now.seen.log) × (pass_pair p ≡ Some last.now.seen.book)) ps.items) }
     ensures causes { IfErr result (λ e. (e ≡ LiveError.NoMemory) ⊎ (e ≡ LiveError.NoPlace)) }
 {
     let mut all = Vec::new(alloc);

@@ -102,7 +102,8 @@ impl WriteEnd {
     /// Appends what is fresh to the groups of all calls, and returns whether it could. `total` is the number of batches in all.
     fn call(&mut self, total: u64) -> bool
         requires total { total ≡ length (writer_published self.old) + length (writer_pending self.old) }
-        ensures calls { MatchBool result ((writer_calls self.new ≡ writer_calls self.old ++ writer_fresh self.old ∷ []) × (writer_fresh self.new ≡ []))
+        ensures calls { MatchBool result
+            ((writer_calls self.new ≡ writer_calls self.old ++ writer_fresh self.old ∷ []) × (writer_fresh self.new ≡ []))
             ((writer_calls self.new ≡ writer_calls self.old) × (writer_fresh self.new ≡ writer_fresh self.old)) }
         ensures writer { self.new.writer ≡ self.old.writer }
         ensures book { writer_pair self.new ≡ writer_pair self.old }

@@ -204,7 +204,8 @@ module _ (s : Lift Best) (old : List (Key × Best)) (slot : Key) where
         (λ apart.
         let before : value_at slot_cmp old key ≡ Some best = sym (out key ∙ ap (λ b. cond b None (value_at slot_cmp old key)) apart) ∙ at in
         elim (or key best before can) [
-          | inl same ↦ absurd (differ (sym (itself slot_total slot_exact slot) ∙ ap (λ (k : Key). is_eq (slot_cmp slot k)) (sym same) ∙ apart))
+          | inl same ↦ absurd (differ (sym (itself slot_total slot_exact slot) ∙ ap (λ (k : Key). is_eq (slot_cmp slot k))
+              (sym same) ∙ apart))
           | inr is ↦ is
         ])
       where
@@ -313,7 +314,8 @@ past_by sequence key best items why = sym (append-nil items) ∙ ap (λ b. items
         and_false true = refl
         and_false false = refl
 
-under_one : (sequence : ℕ) (key : Key) (best : Best) → is_under sequence key best ≡ true → Contains (item_under sequence key best) best.value
+under_one : (sequence : ℕ) (key : Key) (best : Best) → is_under sequence key best ≡ true →
+    Contains (item_under sequence key best) best.value
 under_one sequence key best is =
     subst (λ b. Contains (cond b (best.value ∷ []) []) best.value) (sym is) (cons_first best.value [])
 
@@ -441,7 +443,8 @@ module _ (sequence : ℕ) (es : List (Key × Best)) (old now : List Item) (p : �
   later_high : (q : ℕ × Key) → Contains all q → p.0 ≤ q.0
   later_high q h = elim (cons_cases p rest q (subst (λ (xs : List (ℕ × Key)). Contains xs q) next h)) [
     | inl same ↦ let e : p.0 ≡ q.0 = ap (λ (x : ℕ × Key). x.0) same in omega (arith, e)
-    | inr later ↦ pair_low p q (ap is_gt (less_in rest q (sorted_head due_cmp p rest (subst (IsStrictlySortedBy due_cmp) next so.sorted)) later))
+    | inr later ↦ pair_low p q (ap is_gt (less_in rest q (sorted_head due_cmp p rest (subst (IsStrictlySortedBy due_cmp) next so.sorted))
+        later))
   ]
     where
       less_in : (xs : List (ℕ × Key)) (q : ℕ × Key) → AllByRecursion (λ y. due_cmp p y ≡ Less) xs → Contains xs q → due_cmp p q ≡ Less

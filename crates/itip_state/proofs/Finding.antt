@@ -83,7 +83,8 @@ module _ {X : Type 0} (item : X → Item) where
       let found = from_mapped xs i h in
       let at : ℕ = found.1.0 in
       let equal : slot_cmp (item (get_or xs at found.0)).key k ≡ Equal =
-      ap (λ (x : X). slot_cmp (item x).key k) found.1.2 ∙ ap (λ (y : Item). slot_cmp y.key k) found.2 ∙ ap (λ (q : Key). slot_cmp q k) about ∙
+      ap (λ (x : X). slot_cmp (item x).key k) found.1.2 ∙ ap (λ (y : Item). slot_cmp y.key k) found.2 ∙
+      ap (λ (q : Key). slot_cmp q k) about ∙
       tied_itself slot_total k in
       elim (cases_lt at place) [
         | inl lt ↦ let x : Less ≡ Equal = sym (parts.0 at found.0 (omega arith) lt) ∙ equal in cc

@@ -158,7 +158,8 @@ noted_same old item other = record {
   reached = λ series. let x : true ≡ false = sym series ∙ other in absurd (cc);
 }
 
-pub noted_before : (old : Sequences) (item : Item) (n : ℕ) → value_at uid_cmp old (uid_of item.key) ≡ Some n → item.eff ≤ n → AreNotedWith old item old
+pub noted_before : (old : Sequences) (item : Item) (n : ℕ) → value_at uid_cmp old (uid_of item.key) ≡ Some n → item.eff ≤ n →
+    AreNotedWith old item old
 noted_before old item n there high = record {
   still = λ uid m r. r;
   reached = λ series. record { most = n; there = there; no_less = high };

@@ -189,7 +189,8 @@ module _ (e : List ℕ × UidState) (es : List (List ℕ × UidState)) (s : AreO
             (Contains-append_right (uid_state_items e.1) (items_of es) i r.0, r.1),
         λ h. subst (λ (o : Option UidState). Contains (items_at o) i) (sym found)
             (elim (Contains-append_cases (uid_state_items e.1) (items_of es) i h.0) [
-              | inl left ↦ let same : is_eq (uid_cmp uid e.0) ≡ true = itself_by (sym h.1 ∙ of_first left) in let x : true ≡ false = sym same ∙
+              | inl left ↦ let same : is_eq (uid_cmp uid e.0) ≡ true =
+                  itself_by (sym h.1 ∙ of_first left) in let x : true ≡ false = sym same ∙
                   k in absurd (cc)
               | inr right ↦ (rest i).1 (right, h.1)
             ]),

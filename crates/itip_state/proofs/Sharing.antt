@@ -41,8 +41,11 @@ module _ (set items more : List Item) (us now : List (List ℕ)) (uid : List ℕ
     pub of_more : ArePart uid more set → ArePartOf (items ++ more) set now
     of_more of i = (
       λ h. elim (Contains-append_cases items more i h) [
-        | inl earlier ↦ let p = (part i).0 earlier in
-            (p.0, subst (λ (xs : List (List ℕ)). Contains xs (uid_of i.key)) (sym is) (Contains-append_left us (uid ∷ []) (uid_of i.key) p.1))
+        | inl earlier ↦ let p = (part i).0 earlier in (
+          p.0,
+          subst (λ (xs : List (List ℕ)). Contains xs (uid_of i.key)) (sym is)
+              (Contains-append_left us (uid ∷ []) (uid_of i.key) p.1),
+        )
         | inr new ↦ let p = (of i).0 new in (
           p.0,
           subst (λ (xs : List (List ℕ)). Contains xs (uid_of i.key)) (sym is)

@@ -1,5 +1,6 @@
 -- The sets of UIDs by which what can die is found, after changes of a map by UID.
-use Rattle.std.proofs.Common.{◌≡◌, ◌≤◌, ◌<◌, ◌⊎◌, ℕ, List, [], ◌∷◌, refl, sym, ◌∙◌, ap, subst, inl, inr, Bool, true, false, Option, Some, None, arith}
+use Rattle.std.proofs.Common.{◌≡◌, ◌≤◌, ◌<◌, ◌⊎◌, ℕ, List, [], ◌∷◌, refl, sym, ◌∙◌}
+use Rattle.std.proofs.Common.{ap, subst, inl, inr, Bool, true, false, Option, Some, None, arith}
 use Rattle.std.specs.Prelude.{cond, ◌&&◌, nat_lt}
 use Rattle.std.specs.BTreeMap.{BTreeMap, get, Updates}
 use Rattle.std.specs.Ordering.{is_eq}
@@ -44,7 +45,8 @@ entry_alone i = record { series = Nothing; entries = (i.key, best i) ∷ [] }
 alone_at : (item : Item) (key : Key) (b : Best) → value_at slot_cmp (alone item).entries key ≡ Some b →
     (key ≡ item.key) × (b ≡ best item)
 alone_at item key b e = by_bool (is_series item.key) ((key ≡ item.key) × (b ≡ best item))
-    (λ series. absurd (none_some b (sym (ap (λ t. value_at slot_cmp (cond t (series_alone (best item)) (entry_alone item)).entries key) series) ∙ e)))
+    (λ series. absurd (none_some b (sym (ap (λ t. value_at slot_cmp (cond t (series_alone (best item)) (entry_alone item)).entries key)
+    series) ∙ e)))
     (λ not. by_bool (is_eq (slot_cmp key item.key)) ((key ≡ item.key) × (b ≡ best item))
     (λ same. (
       one_key slot_total slot_exact key item.key same,
@@ -52,7 +54,8 @@ alone_at item key b e = by_bool (is_series item.key) ((key ≡ item.key) × (b �
     ))
     (λ apart. absurd (none_some b (sym (found not ∙ ap (λ t. cond t (Some (best item)) None) apart) ∙ e))))
   where
-    found : is_series item.key ≡ false → value_at slot_cmp (alone item).entries key ≡ cond (is_eq (slot_cmp key item.key)) (Some (best item)) None
+    found : is_series item.key ≡ false → value_at slot_cmp (alone item).entries key ≡ cond (is_eq (slot_cmp key item.key))
+        (Some (best item)) None
     found not = ap (λ t. value_at slot_cmp (cond t (series_alone (best item)) (entry_alone item)).entries key) not
 
 -- what is dead is below what is alive, by its sequence
@@ -133,7 +136,8 @@ due_in : (o : Option DueSet) (state : UidState) (set : DueSet) → AreDueIn o st
 due_in o state set are e = subst (λ (p : Option DueSet). AreDueIn p state.entries) e are
 
 -- the set of a UID of which this is held
-pub set_of : (u : List ℕ) (was : Sets) (held : List (List ℕ × UidState)) → AreTracked was held → (o : Option DueSet) → o ≡ get uid_cmp was u →
+pub set_of : (u : List ℕ) (was : Sets) (held : List (List ℕ × UidState)) → AreTracked was held → (o : Option DueSet) →
+    o ≡ get uid_cmp was u →
     (state : UidState) → at held u ≡ Some state → AreDueIn o state.entries
 set_of u was held tracked None is state e = tt
 set_of u was held tracked (Some set) is state e = tracked u set state (sym is) e
@@ -188,7 +192,8 @@ module _ (item : Item) (was sets : Sets) (held now : List (List ℕ × UidState)
   parts set s = followed_parts (at held (uid_of item.key)) (get uid_cmp was (uid_of item.key)) item set
       (subst (IsFollowed (at held (uid_of item.key)) item (get uid_cmp was (uid_of item.key))) s followed)
 
-  pub tracked_with : IsJoinedAt (at held (uid_of item.key)) (Some (alone item)) (at now (uid_of item.key)) → (set : DueSet) (state : UidState) →
+  pub tracked_with : IsJoinedAt (at held (uid_of item.key)) (Some (alone item)) (at now (uid_of item.key)) →
+      (set : DueSet) (state : UidState) →
       get uid_cmp sets (uid_of item.key) ≡ Some set → at now (uid_of item.key) ≡ Some state → AreDue set state.entries
   tracked_with joined set state s e =
       let p = parts set s in
@@ -200,7 +205,8 @@ module _ (item : Item) (was sets : Sets) (held now : List (List ℕ × UidState)
   -- if an allocation fails, all stays
   pub tracked_same : now ≡ held → ((q : List ℕ) → is_eq (uid_cmp (uid_of item.key) q) ≡ false → get uid_cmp sets q ≡ get uid_cmp was q) →
       AreTracked sets now
-  tracked_same same others = subst (AreTracked sets) (sym same) (tracked_but (uid_of item.key) was sets held held tracked others (λ q n. refl)
+  tracked_same same others = subst (AreTracked sets) (sym same) (tracked_but (uid_of item.key) was sets held held tracked
+      others (λ q n. refl)
       (λ set state s e.
       let p = parts set s in
       λ key b at_key can.

@@ -189,7 +189,8 @@ pub replaced_twice : (old mid now : List (List ℕ × UidState)) (u : List ℕ) 
 replaced_twice old mid now u x y there first second q =
     by_bool (is_eq (uid_cmp u q)) (at now q ≡ cond (is_eq (uid_cmp u q)) (Some y) (at old q))
     (λ same. second q ∙ ap (λ b. cond b (replaced (at mid u) y) (at mid q)) same ∙
-    replaced_some (at mid u) y (ap is_some (first u ∙ ap (λ b. cond b (replaced (at old u) x) (at old u)) (itself nat_list_cmp_total exact_bytes u)
+    replaced_some (at mid u) y (ap is_some (first u ∙ ap (λ b. cond b (replaced (at old u) x) (at old u))
+    (itself nat_list_cmp_total exact_bytes u)
     ∙ replaced_some (at old u) x there)) ∙ sym (ap (λ b. cond b (Some y) (at old q)) same))
     (λ apart. second q ∙ ap (λ b. cond b (replaced (at mid u) y) (at mid q)) apart ∙ first q ∙
     ap (λ b. cond b (replaced (at old u) x) (at old q)) apart ∙ sym (ap (λ b. cond b (Some y) (at old q)) apart))

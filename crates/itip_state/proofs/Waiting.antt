@@ -181,7 +181,8 @@ raised_none start all rest is a = record {
   awaited = subst (AreAwaited start) (sym is) a;
 }
 
-pub raised_more : (start held next : All) (all rest before : List Newer) (n : Newer) → before ≡ n ∷ rest → RaisedSoFar start held all before →
+pub raised_more : (start held next : All) (all rest before : List Newer) (n : Newer) → before ≡ n ∷ rest →
+    RaisedSoFar start held all before →
     (IsAwaited held n → IsHeard held next (n.best).value) → RaisedSoFar start next all rest
 raised_more start held next all rest before n cut so step =
     let a : AreAwaited held (n ∷ rest) = subst (AreAwaited held) cut so.awaited in

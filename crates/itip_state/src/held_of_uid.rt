@@ -200,7 +200,8 @@ pub(crate) fn put_back(series: HeldOfUid, slot: &Slot, before: Option<Best>) -> 
 /// Replaces the entry at a slot, or removes it if `entry` is `None`. If there is no entry at the slot, nothing changes.
 fn put_entry(entries: &mut Keyed<Slot, Best>, slot: &Slot, entry: Option<Best>)
     ensures { (q : Key) → value_at slot_cmp entries.new.map q
-        ≡ cond (is_eq (slot_cmp slot.now q)) (in_place_of (value_at slot_cmp entries.old.map slot.now) entry) (value_at slot_cmp entries.old.map q) }
+        ≡ cond (is_eq (slot_cmp slot.now q)) (in_place_of (value_at slot_cmp entries.old.map slot.now) entry)
+        (value_at slot_cmp entries.old.map q) }
 {
     match entry {
         None => {

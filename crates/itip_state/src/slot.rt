@@ -56,8 +56,8 @@ impl Slot {
 
 /// Compares by kind of key, day and second of the instance, attendee, and whole instance, and then by UID.
 ///
-/// Numbers come first. The answers of one to-do of a message share their instance and their UID, either of which can be long: so these come
-/// last.
+/// Numbers come first. The answers of one to-do of a message share their instance and their UID, and the text of either can be long: so the
+/// whole instance and the UID come last.
 pub(crate) fn compare(key: &Key, other: &Key) -> Ordering
     ensures { result ≡ slot_cmp key.now other.now }
 {
@@ -71,9 +71,9 @@ pub(crate) fn compare(key: &Key, other: &Key) -> Ordering
 fn compare_rest(key: &Key, other: &Key) -> Ordering
     ensures { result ≡ rest_cmp key.now other.now }
 {
-    // Most keys are those of answers: these are compared without asking each key again for its parts.
+    // Of a to-do there can be many answers: these are compared without asking each key again for its parts.
     match (key, other) {
-        (Key::Answer(_, at, attendee), Key::Answer(_, other_at, other_attendee)) => compare_answers(
+        (Key::Answer(_, at, attendee), Key::Answer(_, other_at, other_attendee)) => compare_within(
             at.as_ref(),
             attendee.as_str(),
             other_at.as_ref(),
@@ -88,7 +88,7 @@ fn compare_parts(key: &Key, other: &Key) -> Ordering
     ensures { result ≡ rest_cmp key.now other.now }
 {
     match key.rank().cmp(&other.rank()) {
-        Ordering::Equal => compare_answers(
+        Ordering::Equal => compare_within(
             key.instance(),
             key.attendee(),
             other.instance(),
@@ -99,7 +99,7 @@ fn compare_parts(key: &Key, other: &Key) -> Ordering
 }
 
 /// Compares by day and second of the instance, attendee, and whole instance.
-fn compare_answers(
+fn compare_within(
     at: Option<&Moment>,
     attendee: &str,
     other_at: Option<&Moment>,
@@ -118,7 +118,7 @@ fn compare_answers(
     }
 }
 
-/// Compares two instances by day and second. The to-do as a whole comes before them.
+/// Compares two instances by day and second. `None`, the to-do as a whole, comes first, and of one day a date comes before every second.
 pub(crate) fn compare_times(at: Option<&Moment>, other: Option<&Moment>) -> Ordering
     ensures { result ≡ option_cmp time_cmp (option_copied at.entry) (option_copied other.entry) }
 {

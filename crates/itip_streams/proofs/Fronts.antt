@@ -56,7 +56,8 @@ refused_line name message number small below =
     let digits : (n : ℕ) → n < 2 ^ 64 → list_all is_plain (decimal n) ≡ true =
     decimal_all is_plain (λ d ten. grind (arith, nat_tests)) in
     let plain : list_all is_plain (decimal message ++ rest) ≡ true =
-    both_plain (decimal message) rest (digits message small) (both_plain (codes ": refused ") (decimal number) refl (digits number below)) in
+    both_plain (decimal message) rest (digits message small) (both_plain (codes ": refused ") (decimal number) refl
+    (digits number below)) in
     ap visible (append_assoc (place_of name message) (codes ": refused ") (decimal number) ∙
     append_assoc (front_of name) (decimal message) rest) ∙
     shown_behind 0 (front_of name) (decimal message ++ rest) plain

@@ -9,7 +9,8 @@ use Rattle.itip_lines.specs.declared.line.Line.{Line}
 use Rattle.itip_lines.specs.declared.line.Param.{Param}
 use Rattle.itip_todo.specs.Limits.{before_ranges}
 use Rattle.itip_todo.specs.Participation.{same_text, first_value, param_value}
-use Rattle.itip_todo.specs.Reading.{IsGoodWithin, IsGoodAs, AreGoodWithin, AreGood, ReadsTodoWithin, ReadsTodo, has_range, range_of, lines_of}
+use Rattle.itip_todo.specs.Reading.{IsGoodWithin, IsGoodAs, AreGoodWithin, AreGood, ReadsTodoWithin}
+use Rattle.itip_todo.specs.Reading.{ReadsTodo, has_range, range_of, lines_of}
 use Rattle.itip_todo.specs.Reading.{first_of}
 use Rattle.itip_todo.specs.Table.{property_of, is_same}
 use Rattle.itip_todo.specs.declared.property_name.PropertyName.{PropertyName}
@@ -81,7 +82,8 @@ no_value : (params : List Param) → list_any (λ (param : Param). same_text par
     param_value (codes "RANGE") params ≡ []
 no_value [] none = refl
 no_value (param ∷ params) none =
-    let parts = or_parts (same_text param.name (codes "RANGE")) (list_any (λ (param : Param). same_text param.name (codes "RANGE")) params) none in
+    let parts = or_parts (same_text param.name (codes "RANGE")) (list_any (λ (param : Param). same_text param.name (codes "RANGE")) params)
+    none in
     ap (λ (b : Bool). cond b (first_value param.values) (param_value (codes "RANGE") params)) parts.0 ∙ no_value params parts.1
 
 no_range_in : (line : Line) → has_any_range line ≡ false → has_range line ≡ false

@@ -55,7 +55,8 @@ decide_line above p line =
               | inl value ↦ elim (is_too_many above p) as (λ b. is_too_many above p ≡ b → IsGoodAs above p line ⊎
                   ((f : TodoCause) × HasCauseAs above p line f)) [
                     | true ↦ λ e. inr (cause.TooMany, (once, range, value, e))
-                    | false ↦ λ few. elim (is_same_attendee above p line) as (λ b. is_same_attendee above p line ≡ b → IsGoodAs above p line ⊎
+                    | false ↦ λ few. elim (is_same_attendee above p line) as (λ b. is_same_attendee above p line ≡ b →
+                        IsGoodAs above p line ⊎
                         ((f : TodoCause) × HasCauseAs above p line f)) [
                           | true ↦ λ e. inr (cause.SameAttendee, (once, range, value, few, e))
                           | false ↦ λ new. inl (record { once = once; range = range; value = value; few = few; new = new })

@@ -1,5 +1,6 @@
 -- Which rows of a UID are appended to a text, place by place.
-use Rattle.std.proofs.Common.{◌≡◌, ◌≤◌, ◌+◌, ◌∙◌, ℕ, List, [], ◌∷◌, ◌++◌, sym, ap, length, arith, Bool, Option, Some, None, length-append, append_assoc}
+use Rattle.std.proofs.Common.{◌≡◌, ◌≤◌, ◌+◌, ◌∙◌, ℕ, List, [], ◌∷◌, ◌++◌, sym}
+use Rattle.std.proofs.Common.{ap, length, arith, Bool, Option, Some, None, length-append, append_assoc}
 use Rattle.std.specs.Int.{from_bool}
 use Rattle.std.specs.List.{Contains, filter}
 use Rattle.std.specs.Option.{option_to_list}

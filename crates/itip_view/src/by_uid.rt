@@ -109,7 +109,8 @@ impl<'s, 'w> RowsByUid<'s, 'w> {
     pub fn next(&mut self) -> Result<Option<Vec<Row>>, NoMemory>
         ensures rows { IfOk result (λ rows. IsNextOf self.old self.new (option_map (λ r. r.items) rows)) }
         ensures fewer { IfOk result (λ rows. IfSome rows (λ _. uids_left self.new < uids_left self.old)) }
-        ensures err { OnErr result ((uids_of self.new ≡ uids_of self.old) × ((rows : List Row) → AreLeft self.new rows ↔ AreLeft self.old rows)) }
+        ensures err { OnErr result ((uids_of self.new ≡ uids_of self.old)
+            × ((rows : List Row) → AreLeft self.new rows ↔ AreLeft self.old rows)) }
     {
         if self.done == self.uids.len() {
             return Ok(None);

@@ -30,7 +30,8 @@ module _ (mid new : Command) (arg : Arg) (rule : Rule) (adds : AddsArg mid arg n
   }
 
 -- the first option, which is added to a word that was made
-pub word_first : {E : Type 0} (app : App) (rule : Rule) (old : Command) (arg : Arg) (made : Result Command E) → IsWord app old → IsRule rule arg →
+pub word_first : {E : Type 0} (app : App) (rule : Rule) (old : Command) (arg : Arg) (made : Result Command E) → IsWord app old →
+    IsRule rule arg →
     IfOk made (AddsArg old arg) → IfOk made (IsWord (with_rule app rule))
 word_first app rule old arg made word is adds = IfOk-weaker made _ _ (λ new one. word_one old new arg rule one is app word) adds
 

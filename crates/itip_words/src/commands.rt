@@ -3,7 +3,8 @@ ghost use Rattle.std.specs.Prelude.{IfOk, codes, false, [], ◌∷◌};
 ghost use Rattle.itip_words.specs.Program.{program, no_word, with_words, with_rules, message_words, IsRule, IsWord};
 ghost use Rattle.itip_words.specs.Program.{run_word, office_word, check_word, compact_word, list_word, report_word, news_word};
 ghost use Rattle.itip_words.specs.Program.{explain_word, resend_word, request_word, reply_word, refresh_word, cancel_word};
-ghost use Rattle.itip_words.specs.Program.{positional, option, needed, repeated, otherwise, flag, desks_rule, days_rules, window_rules, row_rules, intake_rules};
+ghost use Rattle.itip_words.specs.Program.{positional, option, needed, repeated, otherwise, flag};
+ghost use Rattle.itip_words.specs.Program.{desks_rule, days_rules, window_rules, row_rules, intake_rules};
 ghost use Rattle.clap.specs.Walk.{Rule};
 ghost use Rattle.clap.specs.Simple.{App, new_app, with_rule, with_subcommand};
 
@@ -48,7 +49,8 @@ fn with_word<'a>(
     command: Result<Command<'a>, AllocError>,
     word: Result<Command<'a>, AllocError>,
 ) -> Result<Command<'a>, AllocError>
-    ensures { (app added : App) → IfOk command.entry (IsWord app) → IfOk word.entry (IsWord added) → IfOk result (IsWord (with_subcommand app added.top)) }
+    ensures { (app added : App) → IfOk command.entry (IsWord app) → IfOk word.entry (IsWord added)
+        → IfOk result (IsWord (with_subcommand app added.top)) }
 {
     add_word(command?, word)
 }
@@ -58,7 +60,8 @@ fn add_word<'a>(
     command: Command<'a>,
     word: Result<Command<'a>, AllocError>,
 ) -> Result<Command<'a>, AllocError>
-    ensures { (app added : App) → IsWord app command.entry → IfOk word.entry (IsWord added) → IfOk result (IsWord (with_subcommand app added.top)) }
+    ensures { (app added : App) → IsWord app command.entry → IfOk word.entry (IsWord added)
+        → IfOk result (IsWord (with_subcommand app added.top)) }
 {
     command.subcommand(word?)
 }
@@ -68,7 +71,8 @@ fn with_arg<'a>(
     command: Result<Command<'a>, AllocError>,
     arg: Arg<'a>,
 ) -> Result<Command<'a>, AllocError>
-    ensures { (app : App) (rule : Rule) → IfOk command.entry (IsWord app) → IsRule rule arg.entry → IfOk result (IsWord (with_rule app rule)) }
+    ensures { (app : App) (rule : Rule) → IfOk command.entry (IsWord app) → IsRule rule arg.entry
+        → IfOk result (IsWord (with_rule app rule)) }
 {
     command?.arg(arg)
 }
@@ -78,7 +82,8 @@ fn with_input<'a>(
     alloc: Global,
     command: Result<Command<'a>, AllocError>,
 ) -> Result<Command<'a>, AllocError>
-    ensures { (app : App) → IfOk command.entry (IsWord app) → IfOk result (IsWord (with_words (run_word ∷ office_word ∷ check_word ∷ []) app)) }
+    ensures { (app : App) → IfOk command.entry (IsWord app)
+        → IfOk result (IsWord (with_words (run_word ∷ office_word ∷ check_word ∷ []) app)) }
 {
     let command = with_word(command, run_command(alloc));
     let command = with_word(command, office_command(alloc));
@@ -90,7 +95,8 @@ fn with_sources<'a>(
     alloc: Global,
     command: Result<Command<'a>, AllocError>,
 ) -> Result<Command<'a>, AllocError>
-    ensures { (app : App) → IfOk command.entry (IsWord app) → IfOk result (IsWord (with_words (compact_word ∷ list_word ∷ report_word ∷ news_word ∷ explain_word ∷ []) app)) }
+    ensures { (app : App) → IfOk command.entry (IsWord app)
+        → IfOk result (IsWord (with_words (compact_word ∷ list_word ∷ report_word ∷ news_word ∷ explain_word ∷ []) app)) }
 {
     let command = with_word(command, compact_command(alloc));
     let command = with_word(command, list_command(alloc));

@@ -57,7 +57,8 @@ class Consumer:
 
     def onto(self, desk, source):
         """Compacts a source onto a file, which is then the old one or the new one on disk, whenever this is killed."""
-        ran = subprocess.run([self.settings["program"], "compact", "--threads", "1", "--output", desk, desk, source], stdout=subprocess.DEVNULL, stderr=subprocess.PIPE)
+        words = [self.settings["program"], "compact", "--threads", "1", "--output", desk, desk, source]
+        ran = subprocess.run(words, stdout=subprocess.DEVNULL, stderr=subprocess.PIPE)
         # 1 says that a message was refused: it isn't heard, wherever and however often it comes.
         if ran.returncode not in (0, 1):
             sys.exit(f"status {ran.returncode}: {ran.stderr[-300:]}")
@@ -103,7 +104,8 @@ class Consumer:
 
     def tell(self):
         """Gives the other site what it lacks of this desk. Told twice is told once."""
-        news = subprocess.run([self.settings["program"], "news", "--threads", "1", "--than", THEIRS, DESK], stdout=subprocess.PIPE, check=True).stdout
+        words = [self.settings["program"], "news", "--threads", "1", "--than", THEIRS, DESK]
+        news = subprocess.run(words, stdout=subprocess.PIPE, check=True).stdout
         texts = uid_parts.messages_of(news)
         if texts:
             self.note("telling", len(texts))

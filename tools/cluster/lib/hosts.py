@@ -75,7 +75,8 @@ def inner(room, seconds, is_apart):
 
 def can_be_apart():
     """Whether namespaces, links between them and mounts can be made here."""
-    script = "mount -t tmpfs none /run && ip netns add a && ip link add v type veth peer name w netns a && ip link add s type bridge && ip netns exec a true"
+    links = "ip link add v type veth peer name w netns a && ip link add s type bridge"
+    script = f"mount -t tmpfs none /run && ip netns add a && {links} && ip netns exec a true"
     with contextlib.suppress(FileNotFoundError):
         return subprocess.run([UNSHARE[0], *AS_ROOT, *UNSHARE[1:], "sh", "-c", script], stderr=subprocess.DEVNULL).returncode == 0
     return False
@@ -128,14 +129,17 @@ class Network:
         self.lead = self.folder("lead")
         adopt_orphans()
         if is_apart:
-            ip_words = ["link set lo up", f"link add {SWITCH} type bridge", f"addr add {self.address(1)}/24 dev {SWITCH}", f"link set {SWITCH} up"]
+            switch = [f"link add {SWITCH} type bridge", f"addr add {self.address(1)}/24 dev {SWITCH}", f"link set {SWITCH} up"]
+            ip_words = ["link set lo up", *switch]
             subprocess.run(["mount", "-t", "tmpfs", "none", "/run"], check=True)
             for words in ip_words:
                 ip(words)
 
     def says(self):
         """What hosts are here, in words."""
-        return "a host is a network namespace with an address and a folder" if self.is_apart else "a host is a process with a folder and a loopback address"
+        if self.is_apart:
+            return "a host is a network namespace with an address and a folder"
+        return "a host is a process with a folder and a loopback address"
 
     def folder(self, name):
         made = os.path.join(self.room, name)
@@ -183,7 +187,8 @@ class Host:
             around += ["ip", "netns", "exec", self.name, "sh", "-c", ENTER, "sh", self.folder, self.network.room]
         with open(os.path.join(self.folder, log), "ab") as out:
             env = {**os.environ, "PYTHONDONTWRITEBYTECODE": "1", **settings}
-            return subprocess.Popen([*around, *words], cwd=self.folder, env=env, stdin=subprocess.DEVNULL, stdout=out, stderr=out, start_new_session=True)
+            ends = {"stdin": subprocess.DEVNULL, "stdout": out, "stderr": out}
+            return subprocess.Popen([*around, *words], cwd=self.folder, env=env, start_new_session=True, **ends)
 
     def path(self, name):
         return os.path.join(self.folder, name)

@@ -30,7 +30,8 @@ returns-in-News-clause-output g c =
     Filters w c.args.draft.now c.args.names.now known inputs (g.W.Write.contents c.args.writer.now)
     (g.W.Write.contents c.write_news.new.writer) outcome)
     _ c.args.written.now c.write_news.result c.in-News.is
-    (outcome_more _ _ c.write_news.result (λ outcome h known inputs known_are are. h known inputs known_are are) c.write_news.ensures.output)
+    (outcome_more _ _ c.write_news.result (λ outcome h known inputs known_are are. h known inputs known_are are)
+    c.write_news.ensures.output)
 
 pub returns-in-News-clause-front : goal.returns-in-News-clause-front
 returns-in-News-clause-front g c =

@@ -11,7 +11,8 @@ loop-number-init g c =
     let none : c.new-desks.result.items ≡ [] = c.new-desks.ensures.items in
     record {
       count = ap length none;
-      begun = subst (λ (l : List Shown). AreBegun (g.F.Folder.holds c.args.folder.now) (names_of c.args.asked.now.loads.items) 0 l) (sym none) tt;
+      begun = subst (λ (l : List Shown). AreBegun (g.F.Folder.holds c.args.folder.now) (names_of c.args.asked.now.loads.items) 0 l)
+          (sym none) tt;
     }
 
 pub loop-number-preserved : goal.loop-number-preserved

@@ -15,10 +15,12 @@ loop-load-preserved c =
 
 pub returns-then-load-number-clause-named : goal.returns-then-load-number-clause-named
 returns-then-load-number-clause-named c =
-    named_at c.args.loads.now c.loop-load.load-index c.load-item.result c.args.number c.as_str.result.now c.loop-load-test.true c.load-item.is
+    named_at c.args.loads.now c.loop-load.load-index c.load-item.result c.args.number c.as_str.result.now c.loop-load-test.true
+    c.load-item.is
     c.if-load-number.true c.as_str.ensures.value
 
 pub returns-clause-none : goal.returns-clause-none
 returns-clause-none c = λ file there.
     c.loop-load.invariant file
-    (subst (λ (l : List Load). Contains (names_of l) (c.args.number, file)) (sym (take_all c.loop-load.load-index c.args.loads.now (omega (arith, c.loop-load-test.false)))) there)
+    (subst (λ (l : List Load). Contains (names_of l) (c.args.number, file))
+    (sym (take_all c.loop-load.load-index c.args.loads.now (omega (arith, c.loop-load-test.false)))) there)

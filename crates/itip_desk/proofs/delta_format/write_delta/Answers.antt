@@ -24,4 +24,5 @@ returns-clause-read_again c =
 
 pub returns-in_err-append_to-clause-succeeds : goal.returns-in_err-append_to-clause-succeeds
 returns-in_err-append_to-clause-succeeds c = λ none.
-    absurd (none_left c.as_slice-item-items.result.now c.loop-item.item-index c.loop-item-test.true (c.as_slice-item-items.ensures.items ∙ none))
+    absurd (none_left c.as_slice-item-items.result.now c.loop-item.item-index c.loop-item-test.true
+    (c.as_slice-item-items.ensures.items ∙ none))

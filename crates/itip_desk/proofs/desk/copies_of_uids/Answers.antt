@@ -9,6 +9,7 @@ returns-in_err-uids-clause-succeeds c = λ none. not_ok (c.in_err-uids.ensures.s
 pub returns-clause-succeeds : goal.returns-clause-succeeds
 returns-clause-succeeds c = λ none.
     let uids : AreUidsOf (map (λ uid. uid.now) c.in_ok-uids.uids.items) [] =
-    subst (λ items. AreUidsOf (map (λ uid. uid.now) c.in_ok-uids.uids.items) (map (λ item. item.now) items)) none c.in_ok-uids.ensures.uids in
+    subst (λ items. AreUidsOf (map (λ uid. uid.now) c.in_ok-uids.uids.items) (map (λ item. item.now) items)) none
+    c.in_ok-uids.ensures.uids in
     c.copies.ensures.succeeds (c.deref.ensures.value ∙ no_view (λ uid. uid.now) c.in_ok-uids.uids.items
     (no_uids (map (λ uid. uid.now) c.in_ok-uids.uids.items) uids))

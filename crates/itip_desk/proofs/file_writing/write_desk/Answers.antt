@@ -68,7 +68,8 @@ pub returns-clause-all : goal.returns-clause-all
 returns-clause-all g c =
     let past : length c.deref-item-items.result.now ≤ c.loop-item.item-index = c.loop-item-test.false in
     on_ok_then c.write_output.result (λ appended.
-    writes_file c.args.desk.now c.deref-item-items.result.now (are g (goal.at.returns-clause-all g c).After-deref-item-items) (omega arith) _ _
+    writes_file c.args.desk.now c.deref-item-items.result.now (are g (goal.at.returns-clause-all g c).After-deref-item-items)
+    (omega arith) _ _
     (written_all _ _ _ _ _ _ _ _ c.loop-item.invariant past _
     (subst (λ (t : List ℕ). Appends (g.W.Write.contents c.loop-item.writer) (g.W.Write.contents c.write_output.new.writer) t)
     c.as_slice-2.ensures.value appended))) c.write_output.ensures.all
@@ -77,7 +78,8 @@ pub returns-clause-front : goal.returns-clause-front
 returns-clause-front g c =
     on_err_then c.write_output.result (λ front octets file.
     subst (λ (t : List ℕ). AppendsFront (g.W.Write.contents c.args.writer.now) (g.W.Write.contents c.write_output.new.writer) t)
-    (sym (one_file c.args.desk.now c.deref-item-items.result.now octets (are g (goal.at.returns-clause-front g c).After-deref-item-items) file))
+    (sym (one_file c.args.desk.now c.deref-item-items.result.now octets
+    (are g (goal.at.returns-clause-front g c).After-deref-item-items) file))
     (front_so_far _ _ _ _ _ _ _ _ c.loop-item.invariant _
     (subst (λ (t : List ℕ). AppendsFront (g.W.Write.contents c.loop-item.writer) (g.W.Write.contents c.write_output.new.writer) t)
     c.as_slice-2.ensures.value front))) c.write_output.ensures.front

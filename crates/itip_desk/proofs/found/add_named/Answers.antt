@@ -12,7 +12,8 @@ pub find_naming-requires : goal.find_naming-requires
 find_naming-requires c =
     let any : Item = c.args.any.now.item in
     let n : ℕ = address_number c.args.address.now in
-    let from : c.in_ok-from.from ≡ name_bound n 0 any = c.in_ok-from.ensures ∙ ap (λ (m : ℕ). name_bound m 0 any) c.attendee_number-attendee.ensures in
+    let from : c.in_ok-from.from ≡ name_bound n 0 any = c.in_ok-from.ensures ∙
+    ap (λ (m : ℕ). name_bound m 0 any) c.attendee_number-attendee.ensures in
     let to : c.in_ok-to.to ≡ name_bound n 4294967295 any = c.in_ok-to.ensures ∙
     ap (λ (m : ℕ). name_bound m 4294967295 any) c.attendee_number-attendee.ensures in
     subst (λ (low : NameEntry). IsLeBy name_cmp low c.in_ok-to.to) (sym from)
@@ -23,7 +24,8 @@ returns c = on_ok_then c.find_naming.result
     (λ found item names there.
     let any : Item = c.args.any.now.item in
     let n : ℕ = address_number c.args.address.now in
-    let from : c.in_ok-from.from ≡ name_bound n 0 any = c.in_ok-from.ensures ∙ ap (λ (m : ℕ). name_bound m 0 any) c.attendee_number-attendee.ensures in
+    let from : c.in_ok-from.from ≡ name_bound n 0 any = c.in_ok-from.ensures ∙
+    ap (λ (m : ℕ). name_bound m 0 any) c.attendee_number-attendee.ensures in
     let to : c.in_ok-to.to ≡ name_bound n 4294967295 any = c.in_ok-to.ensures ∙
     ap (λ (m : ℕ). name_bound m 4294967295 any) c.attendee_number-attendee.ensures in
     let e : NameEntry = name_entry item n in

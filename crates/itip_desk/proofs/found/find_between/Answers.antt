@@ -17,7 +17,8 @@ loop-entry-preserved c =
     (map (λ u. u.now) c.args.uids.now.items) (map (λ u. u.now) c.loop-entry.uids.items) c.loop-entry.entry-iterator c.next.new.self
     c.in-Some.entry.now cut c.loop-entry.invariant (map (λ u. u.now) c.push.new.self.items)
     (ap (map (λ u. u.now)) c.in_ok-push.ensures.items ∙ map-append (λ u. u.now) c.loop-entry.uids.items (c.uid.result ∷ []) ∙
-    ap (λ (x : List ℕ). map (λ u. u.now) c.loop-entry.uids.items ++ x ∷ []) (c.uid.ensures ∙ ap (λ (i : Item). uid_of i.key) c.item.ensures))
+    ap (λ (x : List ℕ). map (λ u. u.now) c.loop-entry.uids.items ++ x ∷ [])
+    (c.uid.ensures ∙ ap (λ (i : Item). uid_of i.key) c.item.ensures))
 
 pub returns : goal.returns
 returns c =

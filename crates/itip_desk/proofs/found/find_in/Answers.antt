@@ -10,13 +10,15 @@ use Rattle.itip_desk.proofs.found.find_in.Goals.{in-Some+in_ok-add_in, in_defaul
 pub returns-clause-days : goal.returns-clause-days
 returns-clause-days c = λ item day low high there. elim c.match-first.branch [
   | in-Some+in_ok-add_in w ↦ rw (w.uids-is) (w.in_ok-add_in.ensures.days item day low high there)
-  | in_default w ↦ absurd (none_there day_cmp c.args.days.now (day_entry item (Day day)) (nil_if c.args.days.now.keys (λ some. not_ok (w.in_default.ensures.variant.1 some))) there)
+  | in_default w ↦ absurd (none_there day_cmp c.args.days.now (day_entry item (Day day))
+      (nil_if c.args.days.now.keys (λ some. not_ok (w.in_default.ensures.variant.1 some))) there)
 ]
 
 pub returns-clause-always : goal.returns-clause-always
 returns-clause-always c = λ item there. elim c.match-first.branch [
   | in-Some+in_ok-add_in w ↦ rw (w.uids-is) (w.in_ok-add_in.ensures.always item there)
-  | in_default w ↦ absurd (none_there day_cmp c.args.days.now (day_entry item Always) (nil_if c.args.days.now.keys (λ some. not_ok (w.in_default.ensures.variant.1 some))) there)
+  | in_default w ↦ absurd (none_there day_cmp c.args.days.now (day_entry item Always)
+      (nil_if c.args.days.now.keys (λ some. not_ok (w.in_default.ensures.variant.1 some))) there)
 ]
 
 -- without entries there is no first

@@ -1,4 +1,5 @@
-use Rattle.std.proofs.Common.{◌≡◌, ◌+◌, ◌<◌, ◌≤◌, ◌++◌, ◌∷◌, ◌∙◌, ℕ, List, [], inl, inr, take, take_all, length, get_or, true, false, sym, ap, subst, arith}
+use Rattle.std.proofs.Common.{◌≡◌, ◌+◌, ◌<◌, ◌≤◌, ◌++◌, ◌∷◌, ◌∙◌, ℕ, List, [], inl}
+use Rattle.std.proofs.Common.{inr, take, take_all, length, get_or, true, false, sym, ap, subst, arith}
 use Rattle.std.specs.List.{Contains}
 use Rattle.std.proofs.lemmas.List.{take_more}
 use Rattle.std.proofs.lemmas.List.Elements.{Contains-push_cases}
@@ -29,6 +30,7 @@ returns c = (
   λ is. absurd (cc),
   λ names. absurd (c.loop-line.invariant names.line
       (subst (λ (xs : List Property). Contains xs names.line) (sym (take_all c.loop-line.line-index c.args.item.now.todo.attendees
-      (subst (λ (xs : List Property). length xs ≤ c.loop-line.line-index) c.as_slice-line-items.ensures (omega (arith, c.loop-line-test.false)))))
+      (subst (λ (xs : List Property). length xs ≤ c.loop-line.line-index) c.as_slice-line-items.ensures
+      (omega (arith, c.loop-line-test.false)))))
       names.there) names.named),
 )

@@ -12,7 +12,8 @@ returns-clause-ok c =
     let item : Item = c.args.item.now in
     let rows : has_rows item ≡ true = sym (c.has_rows.ensures ∙ ap has_rows c.item.ensures) ∙ c.if-not-has_rows.false in
     on_ok_then c.put_lines.result
-    (λ lines e. grown_twice (has c.args.index.now e) (has c.put_day.new.index e) (has c.put_lines.new.index e) (days_in item e) (lines_in item e)
+    (λ lines e. grown_twice (has c.args.index.now e) (has c.put_day.new.index e) (has c.put_lines.new.index e) (days_in item e)
+    (lines_in item e)
     (is_in (entries_of item) e) (entries_in item e rows) (c.in_ok-put_day.ensures.ok e) (lines e))
     c.put_lines.ensures.ok
 

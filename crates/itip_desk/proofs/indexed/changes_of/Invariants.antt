@@ -11,5 +11,6 @@ invariant-loop-item l = (item : Item) → Contains l.fn.giving.items item →
 abbrev pub invariant-loop-item-2 : goal.invariant-loop-item-2
 invariant-loop-item-2 l = record {
   giving : (item : Item) → Contains l.fn.giving.items item → Contains (map (λ c. c.item) l.changes.items) item;
-  found : (item : Item) → Contains (take l.item-index (map (λ item. item.now) l.found)) item → Contains (map (λ c. c.item) l.changes.items) item;
+  found : (item : Item) → Contains (take l.item-index (map (λ item. item.now) l.found)) item →
+      Contains (map (λ c. c.item) l.changes.items) item;
 }

@@ -16,7 +16,8 @@ split : (c : After-partition_point-end)
     c.deref.result.now c.partition_point-end.result
 split c = c.partition_point-end.ensures.partitioned (λ (m : ℕ × List ℕ). ltb m.0 c.args.tick)
     (always_returns_same _ _ _ (λ a r f k. search rules))
-    (IsPartitionedBy-ltb move_tick c.deref.result.now c.args.tick (subst (IsNonDecreasingBy move_tick) (sym c.deref.ensures.value) c.requires))
+    (IsPartitionedBy-ltb move_tick c.deref.result.now c.args.tick
+    (subst (IsNonDecreasingBy move_tick) (sym c.deref.ensures.value) c.requires))
 
 pub returns-clause-by_tick : goal.returns-clause-by_tick
 returns-clause-by_tick c = subst (IsNonDecreasingBy move_tick) (sym c.truncate.ensures.items)
@@ -32,6 +33,7 @@ returns-clause-before c = λ move h. ltb-true move.0 c.args.tick
 pub returns-clause-keeps : goal.returns-clause-keeps
 returns-clause-keeps c = λ move h below. subst (λ (ms : List (ℕ × List ℕ)). Contains ms move)
     (sym (c.truncate.ensures.items ∙ ap (take c.partition_point-end.result) (sym c.deref.ensures.value)))
-    (into_front (λ (m : ℕ × List ℕ). ltb m.0 c.args.tick) c.deref.result.now c.partition_point-end.result c.partition_point-end.ensures.bound
+    (into_front (λ (m : ℕ × List ℕ). ltb m.0 c.args.tick) c.deref.result.now c.partition_point-end.result
+    c.partition_point-end.ensures.bound
     (split (goal.at.returns-clause-keeps c).After-partition_point-end) move
     (subst (λ (ms : List (ℕ × List ℕ)). Contains ms move) (sym c.deref.ensures.value) h) (lt-ltb move.0 c.args.tick below))

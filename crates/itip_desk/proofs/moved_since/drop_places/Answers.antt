@@ -29,12 +29,14 @@ loop-uid-preserved c =
       left = λ was ticks have. elim c.if-carries.branch [
         | then-carries w ↦ subst (λ (t : BTreeMap (List ℕ) ℕ). PlacesLeft uids (take (c.loop-uid.uid-index + 1) uids) was t.entries)
             (sym w.ticks-is)
-            (place_out uids (take c.loop-uid.uid-index uids) (take (c.loop-uid.uid-index + 1) uids) u was c.loop-uid.ticks.entries more ticks
+            (place_out uids (take c.loop-uid.uid-index uids) (take (c.loop-uid.uid-index + 1) uids) u was
+            c.loop-uid.ticks.entries more ticks
             (c.loop-uid.invariant.left was ticks have) w.remove.new.self.entries (c.carries.ensures.0 w.if-carries.true)
             w.remove.ensures.updates.0)
         | else-carries w ↦ subst (λ (t : BTreeMap (List ℕ) ℕ). PlacesLeft uids (take (c.loop-uid.uid-index + 1) uids) was t.entries)
             (sym w.ticks-is)
-            (place_none uids (take c.loop-uid.uid-index uids) (take (c.loop-uid.uid-index + 1) uids) u was c.loop-uid.ticks.entries more ticks
+            (place_none uids (take c.loop-uid.uid-index uids) (take (c.loop-uid.uid-index + 1) uids) u was
+            c.loop-uid.ticks.entries more ticks
             (c.loop-uid.invariant.left was ticks have)
             (λ zero. differ c.carries.result w.if-carries.false (c.carries.ensures.1 zero)))
       ];

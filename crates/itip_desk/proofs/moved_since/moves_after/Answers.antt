@@ -15,13 +15,17 @@ returns c = λ move.
     let order : List (ℕ × List ℕ) = c.args.order.now in
     let place : ℕ = c.partition_point-start.result in
     let within : place ≤ length order = c.partition_point-start.ensures.bound in
-    let parted : IsPartitionPoint (λ (m : ℕ × List ℕ). leb m.0 c.args.tick ≡ true) (λ (m : ℕ × List ℕ). leb m.0 c.args.tick ≡ false) order place =
+    let parted : IsPartitionPoint (λ (m : ℕ × List ℕ). leb m.0 c.args.tick ≡ true)
+    (λ (m : ℕ × List ℕ). leb m.0 c.args.tick ≡ false) order place =
     c.partition_point-start.ensures.partitioned (λ (m : ℕ × List ℕ). leb m.0 c.args.tick)
     (always_returns_same _ _ _ (λ a r f k. search rules)) (IsPartitionedBy-leb move_tick order c.args.tick c.requires) in
     let test = λ (m : ℕ × List ℕ). leb m.0 c.args.tick in (
       λ h.
-          let there : Contains (drop place order) move = subst (λ (ms : List (ℕ × List ℕ)). Contains ms move) (take_rest order place) h in
-          (from_back test order place within parted move there, leb-false move.0 c.args.tick (in_back test order place within parted move there)),
+          let there : Contains (drop place order) move = subst (λ (ms : List (ℕ × List ℕ)). Contains ms move) (take_rest order place) h in (
+            from_back test order place within parted move there,
+            leb-false move.0 c.args.tick
+                (in_back test order place within parted move there),
+          ),
       λ h. subst (λ (ms : List (ℕ × List ℕ)). Contains ms move) (sym (take_rest order place))
           (into_back test order place within parted move h.0 (lt-leb move.0 c.args.tick h.1)),
     )

@@ -45,12 +45,14 @@ loop-uid-preserved c =
 pub returns-in_err-own-clause-places : goal.returns-in_err-own-clause-places
 returns-in_err-own-clause-places c =
     c.place.ensures.places c.args.uids.now c.args.ticks.now.entries
-    (in_listed c.args.uids.now c.uid-item.result (c.loop-uid.uid-index, c.loop-uid-test.true, sym c.uid-item.is)) c.loop-uid.invariant.places
+    (in_listed c.args.uids.now c.uid-item.result (c.loop-uid.uid-index, c.loop-uid-test.true, sym c.uid-item.is))
+    c.loop-uid.invariant.places
 
 pub returns-in_err-push-clause-places : goal.returns-in_err-push-clause-places
 returns-in_err-push-clause-places c =
     c.place.ensures.places c.args.uids.now c.args.ticks.now.entries
-    (in_listed c.args.uids.now c.uid-item.result (c.loop-uid.uid-index, c.loop-uid-test.true, sym c.uid-item.is)) c.loop-uid.invariant.places
+    (in_listed c.args.uids.now c.uid-item.result (c.loop-uid.uid-index, c.loop-uid-test.true, sym c.uid-item.is))
+    c.loop-uid.invariant.places
 
 pub returns-in_err-push-clause-keeps : goal.returns-in_err-push-clause-keeps
 returns-in_err-push-clause-keeps c = λ move h. subst (λ (ms : List (ℕ × List ℕ)). Contains ms move) (sym c.in_err-push.ensures.items)

@@ -6,7 +6,8 @@ use Rattle.itip_desk.proofs.number.uid_number.Goals as goal
 pub loop-octet-preserved : goal.loop-octet-preserved
 loop-octet-preserved c = record {
   number = c.number_with-number.ensures.number ∙ number_more c.as_bytes-octet-items.result.now c.args.uid.now
-      c.as_bytes-octet-items.ensures.value c.loop-octet.octet-index c.loop-octet.number _ c.loop-octet-test.true c.loop-octet.invariant.number;
+      c.as_bytes-octet-items.ensures.value c.loop-octet.octet-index c.loop-octet.number _ c.loop-octet-test.true
+      c.loop-octet.invariant.number;
   small = c.number_with-number.ensures.small;
 }
 

@@ -25,5 +25,6 @@ loop-one-preserved c =
     let done : take (i + 1) sorted ≡ take i sorted ++ one ∷ [] = take_more sorted i one c.loop-one-test.true ∙
     ap (λ (x : Bor ToldItem). take i sorted ++ x ∷ []) (sym c.one-item.is) in
     subst (λ (xs : List (Bor ToldItem)). PicksSoFar xs c.push.new.self.items (Some one.now.item.key)) (sym done)
-    (subst (λ (xs : List (Bor ToldItem)). PicksSoFar (take i sorted ++ one ∷ []) xs (Some one.now.item.key)) (sym c.in_ok-push.ensures.items)
+    (subst (λ (xs : List (Bor ToldItem)). PicksSoFar (take i sorted ++ one ∷ []) xs (Some one.now.item.key))
+    (sym c.in_ok-push.ensures.items)
     (picks_more (take i sorted) picked (option_copied c.loop-one.last) c.loop-one.invariant one))

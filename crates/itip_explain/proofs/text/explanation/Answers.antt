@@ -26,7 +26,8 @@ returns c =
     let fates = told_to c.in_ok-fates.fates in
     let told : List ToldItem = c.args.told.now in
     let same : fates ≡ told = c.in_ok-fates.ensures.told ∙ c.in_ok-latest.ensures.told in
-    if_ok_then (λ text. AreLines fates c.args.names.now fates text.items) (λ text. IsExplanation c.args.uid.now told c.args.names.now text.items)
+    if_ok_then (λ text. AreLines fates c.args.names.now fates text.items)
+    (λ text. IsExplanation c.args.uid.now told c.args.names.now text.items)
     c.lines.result (λ text are. record {
       about = c.requires;
       lines = subst (λ (ts : List ToldItem). AreLines ts c.args.names.now ts text.items) same are;

@@ -1,4 +1,5 @@
-use Rattle.std.proofs.Common.{◌≡◌, ◌+◌, ◌<◌, ◌∷◌, [], ◌++◌, ◌∙◌, ℕ, List, length, get_or, drop, refl, sym, ap, subst, append_assoc, append-nil}
+use Rattle.std.proofs.Common.{◌≡◌, ◌+◌, ◌<◌, ◌∷◌, [], ◌++◌, ◌∙◌, ℕ, List}
+use Rattle.std.proofs.Common.{length, get_or, drop, refl, sym, ap, subst, append_assoc, append-nil}
 use Rattle.std.proofs.lemmas.List.{at_drop_more, at_drop_all}
 use Rattle.std.specs.String.{string_bytes}
 use Rattle.itip_streams.specs.declared.source_name.SourceName.{SourceName}
@@ -35,7 +36,8 @@ pub returns : goal.returns
 returns c =
     let told : List ToldItem = told_to c.args.fates.now in
     let items : List ToldItem = c.told-one-items.result.now in
-    let none : drop c.loop-one.one-index told ≡ [] = subst (λ (xs : List ToldItem). drop c.loop-one.one-index xs ≡ []) c.told-one-items.ensures
+    let none : drop c.loop-one.one-index told ≡ [] = subst (λ (xs : List ToldItem). drop c.loop-one.one-index xs ≡ [])
+    c.told-one-items.ensures
     (at_drop_all (λ (xs : List ToldItem). xs) items c.loop-one.one-index c.loop-one-test.false) in
     subst (AreLines told c.args.names.now told) (append-nil c.loop-one.text.items)
     (c.loop-one.invariant [] (subst (λ (xs : List ToldItem). AreLines told c.args.names.now xs []) (sym none) refl))

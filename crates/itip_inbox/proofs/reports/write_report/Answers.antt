@@ -22,7 +22,8 @@ pub returns-in_err-write_output-in-Few-clause-front : goal.returns-in_err-write_
 returns-in_err-write_output-in-Few-clause-front g c =
     on_err c.from_residual-in_err-write_output-in-Few.result
     (report_front c.args.name c.args.inbox.now.state c.args.window c.in_ok-rows.rows c.in_ok-rows.ensures
-    (g.W.Write.contents c.args.writer.now) (g.W.Write.contents c.write_output.new.writer) c.in-Few.field-0 (subst (IsCountOf c.in_ok-rows.rows) c.in-Few.is c.in_ok-count.ensures.count)
+    (g.W.Write.contents c.args.writer.now) (g.W.Write.contents c.write_output.new.writer) c.in-Few.field-0
+    (subst (IsCountOf c.in_ok-rows.rows) c.in-Few.is c.in_ok-count.ensures.count)
     c.in_ok-text-in-Few.text.items (c.in_ok-text-in-Few.ensures c.args.window)
     (subst (λ (t : List ℕ). AppendsFront (g.W.Write.contents c.args.writer.now) (g.W.Write.contents c.write_output.new.writer) t)
     c.as_slice.ensures.value c.in_err-write_output-in-Few.ensures.front))
@@ -30,7 +31,8 @@ returns-in_err-write_output-in-Few-clause-front g c =
 pub returns-in_ok-write_output-in-Few-clause-written : goal.returns-in_ok-write_output-in-Few-clause-written
 returns-in_ok-write_output-in-Few-clause-written g c =
     writes_report c.args.name c.args.inbox.now.state c.args.window c.in_ok-rows.rows c.in_ok-rows.ensures
-    (g.W.Write.contents c.args.writer.now) (g.W.Write.contents c.write_output.new.writer) c.in-Few.field-0 (subst (IsCountOf c.in_ok-rows.rows) c.in-Few.is c.in_ok-count.ensures.count)
+    (g.W.Write.contents c.args.writer.now) (g.W.Write.contents c.write_output.new.writer) c.in-Few.field-0
+    (subst (IsCountOf c.in_ok-rows.rows) c.in-Few.is c.in_ok-count.ensures.count)
     c.in_ok-text-in-Few.text.items (c.in_ok-text-in-Few.ensures c.args.window)
     (subst (λ (t : List ℕ). Appends (g.W.Write.contents c.args.writer.now) (g.W.Write.contents c.write_output.new.writer) t)
     c.as_slice.ensures.value c.in_ok-write_output-in-Few.ensures.all)
@@ -39,11 +41,13 @@ pub returns-in_err-refuse_rows-in-TooMany-clause-front : goal.returns-in_err-ref
 returns-in_err-refuse_rows-in-TooMany-clause-front g c =
     on_err c.from_residual-in_err-refuse_rows-in-TooMany.result
     (report_refusal_front c.args.name c.args.inbox.now.state c.args.window c.in_ok-rows.rows c.in_ok-rows.ensures
-    (g.W.Write.contents c.args.writer.now) (g.W.Write.contents c.refuse_rows.new.writer) (subst (IsCountOf c.in_ok-rows.rows) c.in-TooMany.is c.in_ok-count.ensures.count).0
+    (g.W.Write.contents c.args.writer.now) (g.W.Write.contents c.refuse_rows.new.writer)
+    (subst (IsCountOf c.in_ok-rows.rows) c.in-TooMany.is c.in_ok-count.ensures.count).0
     c.in_err-refuse_rows-in-TooMany.ensures.front)
 
 pub returns-in_ok-refuse_rows-in-TooMany-clause-written : goal.returns-in_ok-refuse_rows-in-TooMany-clause-written
 returns-in_ok-refuse_rows-in-TooMany-clause-written g c =
     refuses_report c.args.name c.args.inbox.now.state c.args.window c.in_ok-rows.rows c.in_ok-rows.ensures
-    (g.W.Write.contents c.args.writer.now) (g.W.Write.contents c.refuse_rows.new.writer) (subst (IsCountOf c.in_ok-rows.rows) c.in-TooMany.is c.in_ok-count.ensures.count).0
+    (g.W.Write.contents c.args.writer.now) (g.W.Write.contents c.refuse_rows.new.writer)
+    (subst (IsCountOf c.in_ok-rows.rows) c.in-TooMany.is c.in_ok-count.ensures.count).0
     c.in_ok-refuse_rows-in-TooMany.ensures.all

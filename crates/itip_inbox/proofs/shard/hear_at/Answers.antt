@@ -13,7 +13,8 @@ use Rattle.itip_inbox.proofs.Keeping.{keeps_one}
 use Rattle.itip_inbox.proofs.shard.hear_at.Goals as goal
 use Rattle.itip_inbox.proofs.shard.hear_at.Goals.{then-is_of+in_ok-hear, else-is_of}
 
-module _ (count number : ℕ) (items : List Item) (at : ℕ) (item : Item) (below : at < length items) (here : item ≡ get_or items at item) where
+module _ (count number : ℕ) (items : List Item) (at : ℕ) (item : Item) (below : at < length items)
+    (here : item ≡ get_or items at item) where
   abbrev test : Item → Bool
   test i = nat_eq (shard_of count (uid_of i.key)) number
 

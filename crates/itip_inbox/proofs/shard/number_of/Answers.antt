@@ -9,7 +9,8 @@ use Rattle.itip_inbox.proofs.shard.number_of.Goals as goal
 mixed_more : (octets : List ℕ) (at n d octet : ℕ) → at < length octets → octet ≡ get_or octets at d → n ≡ number_of (take at octets) →
     mixed n octet ≡ number_of (take (at + 1) octets)
 mixed_more octets at n d octet below is so =
-    ap₂ mixed so is ∙ sym (fold-append mixed 0 (take at octets) (get_or octets at d ∷ [])) ∙ ap number_of (sym (take_more octets at d below))
+    ap₂ mixed so is ∙ sym (fold-append mixed 0 (take at octets) (get_or octets at d ∷ [])) ∙
+    ap number_of (sym (take_more octets at d below))
 
 pub loop-octet-preserved : goal.loop-octet-preserved
 loop-octet-preserved c = record {

@@ -21,7 +21,8 @@ loop-one-preserved c =
     ap (λ (w : Waiting). take at c.args.waiting.now ++ w ∷ []) (sym c.one-item.is) in
     c.in_ok-cut_source.ensures ∙
     ap (λ (ms : List Placed). ms ++ placed_from one.source 1 (messages_of c.as_slice.result.now)) c.loop-one.invariant ∙
-    ap (λ (octets : List ℕ). waiting_of (take at c.args.waiting.now) ++ placed_from one.source 1 (messages_of octets)) c.as_slice.ensures.value ∙
+    ap (λ (octets : List ℕ). waiting_of (take at c.args.waiting.now) ++ placed_from one.source 1 (messages_of octets))
+    c.as_slice.ensures.value ∙
     sym (ap waiting_of is ∙ waiting_push (take at c.args.waiting.now) one)
 
 pub returns : goal.returns

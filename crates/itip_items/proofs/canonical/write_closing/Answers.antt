@@ -9,4 +9,5 @@ pub returns : goal.returns
 returns c =
     end_up_to c.args.room (rest_contents (parts_of c.args.todo.now)) [] c.write_todo_rest.new.out.items _
     (subst (λ (old : List ℕ). AppendsUpTo c.args.room (rest_contents (parts_of c.args.todo.now)) old c.write_todo_rest.new.out.items)
-    c.in_ok-octets.ensures.items c.in_ok-write_todo_rest.ensures) (c.in_ok-exact.ensures.items ∙ c.as_slice.ensures.value ∙ c.in_ok-write_end.ensures)
+    c.in_ok-octets.ensures.items c.in_ok-write_todo_rest.ensures)
+    (c.in_ok-exact.ensures.items ∙ c.as_slice.ensures.value ∙ c.in_ok-write_end.ensures)

@@ -18,7 +18,8 @@ drafted k key other p q e f = λ i. draft k (e i) (f i)
 
 pub finish_behind-requires : goal.finish_behind-requires
 finish_behind-requires c = (
-  subst IsCanonical (sym (drafted c.args.kind c.in_ok-key.key _ (parts_of c.in-Ok.only) _ c.in_ok-key.ensures c.in-Ok.ensures)) c.requires.0,
+  subst IsCanonical (sym (drafted c.args.kind c.in_ok-key.key _ (parts_of c.in-Ok.only) _ c.in_ok-key.ensures c.in-Ok.ensures))
+      c.requires.0,
   subst (λ (p : Parts). IsFrontOf c.args.kind p c.args.front.now) (sym c.in-Ok.ensures) c.requires.2,
 )
 

@@ -27,7 +27,8 @@ returns-else-front-other_front c =
     let more : List ℕ = c.split_at-else-front-other_front.result.1.now in
     let other : List ℕ = c.args.other_own.now in
     let whole : c.args.front.now ≡ same ++ more =
-    pieces_of (length c.args.other_front.now) c.args.front.now same more c.split_at-else-front-other_front.ensures.front c.split_at-else-front-other_front.ensures.back in
+    pieces_of (length c.args.other_front.now) c.args.front.now same more c.split_at-else-front-other_front.ensures.front
+    c.split_at-else-front-other_front.ensures.back in
     c.then-else-front-other_front.ensures ∙
     ap (λ (o : Ordering). ordering_then o c.reverse.result) c.cmp-else-front-other_front.ensures ∙
     ap (λ (o : Ordering). ordering_then (slice_cmp nat_cmp same front) o) (c.reverse.ensures ∙

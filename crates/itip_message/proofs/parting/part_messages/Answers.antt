@@ -11,7 +11,8 @@ loop-line-init c = record {
 
 pub loop-line-preserved : goal.loop-line-preserved
 loop-line-preserved c = record {
-  at = at_line c.args.bytes.now c.loop-line.invariant.at.front c.loop-line.rest.now c.in-Some-whole_line.line.now c.in-Some-whole_line.after.now
+  at = at_line c.args.bytes.now c.loop-line.invariant.at.front c.loop-line.rest.now c.in-Some-whole_line.line.now
+      c.in-Some-whole_line.after.now
       c.loop-line.invariant.at.whole c.in-Some-whole_line.ensures.stays c.in-Some-whole_line.ensures.ends;
   within = omega (arith, c.in-Some-whole_line.ensures.shorter, c.loop-line.invariant.within);
 }
@@ -19,4 +20,5 @@ loop-line-preserved c = record {
 pub returns-then-ends_calendar : goal.returns-then-ends_calendar
 returns-then-ends_calendar c =
     parted_at c.args.bytes.now c.loop-line.rest.now c.in-Some-whole_line.line.now c.in-Some-whole_line.after.now _ c.loop-line.invariant.at
-    c.in-Some-whole_line.ensures.stays c.in-Some-whole_line.ensures.ends c.in-Some-whole_line.ensures.some (sym c.ends_calendar.ensures ∙ c.if-ends_calendar.true) refl
+    c.in-Some-whole_line.ensures.stays c.in-Some-whole_line.ensures.ends c.in-Some-whole_line.ensures.some
+    (sym c.ends_calendar.ensures ∙ c.if-ends_calendar.true) refl

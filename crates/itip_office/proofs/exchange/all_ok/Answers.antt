@@ -20,7 +20,8 @@ pub returns-clause-all : goal.returns-clause-all
 returns-clause-all g c =
     let ended = c.in-None.ensures.steps.0 in
     let long = c.loop-one.one-iterator.rest.ok.0 in
-    let none : into_iter_items c.loop-one.one-iterator ≡ [] = nil_from_length (into_iter_items c.loop-one.one-iterator) (omega (arith, ended, long)) in
+    let none : into_iter_items c.loop-one.one-iterator ≡ [] = nil_from_length (into_iter_items c.loop-one.one-iterator)
+    (omega (arith, ended, long)) in
     sym c.loop-one.invariant ∙ ap (λ (l : List (Result g.row.T.Denot OfficeError)). map Ok c.loop-one.values.items ++ l) none ∙
     append-nil (map Ok c.loop-one.values.items)
 

@@ -71,7 +71,8 @@ returns-clause-kept g c = λ hs are.
     let first : c.truncate.new.self.items ≡ take c.args.desks parts = search rules in
     let gives : AreDeltasOf parts deltas =
     are_deltas parts c.in_ok-given.given.items deltas (given_count g before) (each_given g before) c.in_ok-deltas.ensures.all in
-    all_kept_alike hs parts deltas are gives c.args.desks c.truncate.new.self.items c.in_ok-taken.taken.items c.in_ok-ended.ended.items first
+    all_kept_alike hs parts deltas are gives c.args.desks c.truncate.new.self.items c.in_ok-taken.taken.items
+    c.in_ok-ended.ended.items first
     c.in_ok-taken.ensures.count (each_taken g after) c.in_ok-ended.ensures.all
 
 pub returns-clause-each : goal.returns-clause-each

@@ -25,7 +25,8 @@ loop-one-init g c =
     let all : into_iter_items c.into_iter-one-iterator.result ≡ c.args.done.kept.items = search rules in
     let none : c.new-texts.result.items ≡ [] = c.new-texts.ensures.items in
     record {
-      left = subst (λ (l : List (Merged g.row.R.Denot)). All (λ k. HasMerged k.desk k.answers.items k.held.texts) l) (sym all) c.requires.kept;
+      left = subst (λ (l : List (Merged g.row.R.Denot)). All (λ k. HasMerged k.desk k.answers.items k.held.texts) l)
+          (sym all) c.requires.kept;
       gathered = subst (λ (l : List Shown). AreGathered c.args.desks c.args.done.alone.items l) (sym none)
           (gathered_none c.args.desks c.args.done.alone.items c.requires.alone);
       whole = ap (λ (l : List (Merged g.row.R.Denot)). c.args.done.alone.items ++ answered l) all;

@@ -52,7 +52,8 @@ returns-in_err-write_if_many-clause-front g c =
 
 pub loop-number-preserved : goal.loop-number-preserved
 loop-number-preserved g c =
-    moved_out _ _ _ _ _ _ _ (more g (goal.at.loop-number-preserved g c).In_ok-most c.is_some-is_refused.result c.is_some-is_refused.ensures) _
+    moved_out _ _ _ _ _ _ _ (more g (goal.at.loop-number-preserved g c).In_ok-most c.is_some-is_refused.result c.is_some-is_refused.ensures)
+    _
     _ c.in_ok-write_if_many.ensures.moved
 
 pub returns-in_err-write_output-clause-front : goal.returns-in_err-write_output-clause-front

@@ -36,7 +36,8 @@ pub returns-in-Ok-clause-alone : goal.returns-in-Ok-clause-alone
 returns-in-Ok-clause-alone g c =
     let done = c.in-Ok.joined.done in
     let all = All-weaker (IsAnswered c.args.desks (IsOneOf c.in-Ok.joined.looked.items))
-    (λ (a : Answer). AnswersAlone c.args.desks a.0.work a.1) (λ a is. is.alone) done.alone.items (answered g (goal.at.returns-in-Ok-clause-alone g c).In-Ok) in
+    (λ (a : Answer). AnswersAlone c.args.desks a.0.work a.1) (λ a is. is.alone) done.alone.items
+    (answered g (goal.at.returns-in-Ok-clause-alone g c).In-Ok) in
     IfOk-weaker c.checked.result (λ d. d ≡ done) (λ d. All (λ a. AnswersAlone c.args.desks a.0.work a.1) d.alone.items)
     (λ d same. subst (λ (d : Done g.row.R.Denot). All (λ a. AnswersAlone c.args.desks a.0.work a.1) d.alone.items) (sym same) all)
     c.checked.ensures.done

@@ -16,4 +16,5 @@ returns-clause-none c =
     let all : FitsSigned w32 (pos k +ℤ c.wait_for_weekday.result) = omega (arith, signed_arith) in
     let behind : IsNone (IsOnWeekday c.args.weekday) (day.number +ℤ pos (1 + k)) (day.number +ℤ pos k +ℤ c.wait_for_weekday.result) =
     simp to_z-of_z at c.wait_for_weekday.ensures.none in
-    rw unsigned (simp to_z-of_z (no_nth c.args.place c.args.weekday day.number c.wait_for_weekday.result k c.before_seven-before.ensures.none behind))
+    rw unsigned (simp to_z-of_z (no_nth c.args.place c.args.weekday day.number c.wait_for_weekday.result k
+    c.before_seven-before.ensures.none behind))

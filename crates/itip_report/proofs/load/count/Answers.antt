@@ -20,7 +20,8 @@ returns c = λ done before long tally.
     sym c.rows_before.ensures ∙ c.in-Some.is in
     elim c.if-rows-eq0.branch [
       | then-rows-eq0+in_ok-clone+in_ok-push w ↦
-          count_first c.args.place done before c.args.tally.now.keys.items c.args.tally.now.counts c.args.key long tally c.in-Some.rows v so_far
+          count_first c.args.place done before c.args.tally.now.keys.items c.args.tally.now.counts c.args.key long tally
+          c.in-Some.rows v so_far
           c.requires c.saturating_add.ensures refl c.insert.new.self
           (subst (λ m. Updates (slice_cmp nat_cmp) m c.insert.new.self c.args.key (Some v)) (ap (λ t. t.counts) w.tally-is)
           c.in_ok-insert.ensures.updates)
@@ -31,7 +32,8 @@ returns c = λ done before long tally.
       | else-rows-eq0 w ↦
           subst (λ (keys : List (List ℕ)). IsTally done (before ++ c.args.key ∷ []) keys c.insert.new.self)
           (sym (ap (λ t. t.keys.items) w.tally-is))
-          (count_more c.args.place done before c.args.tally.now.keys.items c.args.tally.now.counts c.args.key long tally c.in-Some.rows v so_far
+          (count_more c.args.place done before c.args.tally.now.keys.items c.args.tally.now.counts c.args.key long tally
+          c.in-Some.rows v so_far
           c.requires c.saturating_add.ensures refl c.insert.new.self
           (subst (λ m. Updates (slice_cmp nat_cmp) m c.insert.new.self c.args.key (Some v)) (ap (λ t. t.counts) w.tally-is)
           c.in_ok-insert.ensures.updates)

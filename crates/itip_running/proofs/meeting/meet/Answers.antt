@@ -21,7 +21,8 @@ returns-clause-within g c =
     let log : c.again-front.result.seen.log ≡ publishes c.args.keeper = search rules in
     let all = subst (λ (l : List Pass). All (λ p. IsPrefix (publishes_seen p) c.again-front.result.seen.log) l) c.as_slice.ensures.value
     c.in_ok-seen.ensures.within in
-    All-weaker (λ (p : Pass). IsPrefix (publishes_seen p) (publishes c.args.keeper)) (λ (p : Pass). IsPrefix (seen p) (published c.args.keeper))
+    All-weaker (λ (p : Pass). IsPrefix (publishes_seen p) (publishes c.args.keeper))
+    (λ (p : Pass). IsPrefix (seen p) (published c.args.keeper))
     (λ p h. prefix_batches (publishes_seen p) (publishes c.args.keeper) h) c.args.passes.items
     (subst (λ (l : List Group). All (λ p. IsPrefix (publishes_seen p) l) c.args.passes.items) log all)
 

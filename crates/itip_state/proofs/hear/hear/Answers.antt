@@ -9,7 +9,8 @@ use Rattle.itip_state.proofs.hear.hear.Goals as goal
 
 pub returns-in-None-clause-kept : goal.returns-in-None-clause-kept
 returns-in-None-clause-kept c = on_ok_then c.join_one.result
-    (λ joined. (heard_here c.args.item.now c.args.held.now c.join_one.new.self c.join_one.ensures.ordered joined c.join_one.ensures.others).kept)
+    (λ joined. (heard_here c.args.item.now c.args.held.now c.join_one.new.self c.join_one.ensures.ordered joined
+    c.join_one.ensures.others).kept)
     c.join_one.ensures.joined
 
 pub returns-in-Some-clause-kept : goal.returns-in-Some-clause-kept

@@ -13,7 +13,8 @@ none_some x e = cc
 pub returns-in-None-clause-noted : goal.returns-in-None-clause-noted
 returns-in-None-clause-noted c = absurd (elim c.requires [
   | inl other ↦ let x : true ≡ false = sym c.in-None.ensures ∙ other in cc
-  | inr none ↦ none_some (uid_state c.in-Some.series.now) (sym none ∙ sym (ap (at c.args.held.now) c.uid.ensures) ∙ sym c.in-Some.ensures.found)
+  | inr none ↦ none_some (uid_state c.in-Some.series.now) (sym none ∙ sym (ap (at c.args.held.now) c.uid.ensures) ∙
+      sym c.in-Some.ensures.found)
 ])
 
 pub returns-in-None-get-clause-noted : goal.returns-in-None-get-clause-noted

@@ -13,7 +13,8 @@ returns-then-below-clause-joined c = raised_not (uid_state c.args.held) c.args.b
 pub invariant_of-held : goal.invariant_of-held
 invariant_of-held c = record {
   no_dead_entry = raised_alive (uid_state c.args.held) c.args.best
-      (λ below. differ (sym (c.below.ensures.1 below) ∙ c.if-below.false)) c.drop_dead-due.new.entries.map c.drop_dead-due.new.entries.ordered
+      (λ below. differ (sym (c.below.ensures.1 below) ∙ c.if-below.false)) c.drop_dead-due.new.entries.map
+      c.drop_dead-due.new.entries.ordered
       c.drop_dead-due.ensures.alive;
 }
 

@@ -10,7 +10,8 @@ loop-left-init g c = record { passed = ([], Consumes-nil (g.R.Read.remaining c.a
 pub returns-then-brought-eq0-clause-passes : goal.returns-then-brought-eq0-clause-passes
 returns-then-brought-eq0-clause-passes g c =
     fewer_passed c.args.count _ _ c.loop-left.invariant.passed.0 c.loop-left.invariant.passed.1 _ (omega arith)
-    (none_read _ _ _ _ c.in_ok-brought.ensures.bytes.0 c.in_ok-brought.ensures.bytes.1 c.if-brought-eq0.true (omega (arith, length-take c.min-room.result c.loop-left.buffer)))
+    (none_read _ _ _ _ c.in_ok-brought.ensures.bytes.0 c.in_ok-brought.ensures.bytes.1 c.if-brought-eq0.true
+    (omega (arith, length-take c.min-room.result c.loop-left.buffer)))
 
 pub returns-then-brought-eq0-clause-well : goal.returns-then-brought-eq0-clause-well
 returns-then-brought-eq0-clause-well g c =

@@ -28,12 +28,14 @@ returns-in_default-2-clause-reads g c =
 
 pub returns-in_default-2-clause-well : goal.returns-in_default-2-clause-well
 returns-in_default-2-clause-well g c =
-    ends_none g.R.ReadOnce.reads _ c.loop-reader.reader _ c.loop-reader.invariant.well (rw c.in_default-2.is at c.in_ok-octet-2.ensures.well)
+    ends_none g.R.ReadOnce.reads _ c.loop-reader.reader _ c.loop-reader.invariant.well
+    (rw c.in_default-2.is at c.in_ok-octet-2.ensures.well)
 
 pub returns-then-octet-eq10-clause-reads : goal.returns-then-octet-eq10-clause-reads
 returns-then-octet-eq10-clause-reads g c =
     held_whole c.args.limit _ _ c.push.new.self.items
-    (line_whole _ _ _ c.loop-reader.line.items c.loop-reader.invariant.so_far c.in-Some.octet c.push.new.self.items c.in_ok-push.ensures.items
+    (line_whole _ _ _ c.loop-reader.line.items c.loop-reader.invariant.so_far c.in-Some.octet c.push.new.self.items
+    c.in_ok-push.ensures.items
     (rw c.in-Some.is at c.in_ok-octet.ensures.reads) c.if-octet-eq10.true) (omega arith)
 
 pub returns-then-octet-eq10-clause-well : goal.returns-then-octet-eq10-clause-well

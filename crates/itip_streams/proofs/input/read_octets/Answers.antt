@@ -11,7 +11,8 @@ loop-buffer-init g c = record { given = search rules; few = search rules; well =
 pub returns-then-brought-eq0-clause-reads : goal.returns-then-brought-eq0-clause-reads
 returns-then-brought-eq0-clause-reads g c =
     fewer_read c.args.count _ _ c.loop-buffer.octets.items c.loop-buffer.invariant.given _ (omega arith)
-    (none_read _ _ _ _ c.in_ok-brought.ensures.bytes.0 c.in_ok-brought.ensures.bytes.1 c.if-brought-eq0.true (omega (arith, length-take c.min-room.result c.loop-buffer.buffer)))
+    (none_read _ _ _ _ c.in_ok-brought.ensures.bytes.0 c.in_ok-brought.ensures.bytes.1 c.if-brought-eq0.true
+    (omega (arith, length-take c.min-room.result c.loop-buffer.buffer)))
 
 pub returns-then-brought-eq0-clause-well : goal.returns-then-brought-eq0-clause-well
 returns-then-brought-eq0-clause-well g c =
@@ -27,7 +28,8 @@ loop-buffer-preserved g c =
     let size = more_octets c.loop-buffer.octets.items c.in_ok-brought.brought c.read_some.new.buffer c.in_ok-brought.ensures.bound in
     record {
       given = subst (λ (t : List ℕ). Consumes (g.R.Read.remaining c.args.reader.now) (g.R.Read.remaining c.read_some.new.reader) t)
-          (sym grown) (Consumes-trans _ _ _ c.loop-buffer.octets.items brought c.loop-buffer.invariant.given c.in_ok-brought.ensures.bytes.0);
+          (sym grown) (Consumes-trans _ _ _ c.loop-buffer.octets.items brought c.loop-buffer.invariant.given
+          c.in_ok-brought.ensures.bytes.0);
       few = omega (arith, ap length grown, size, c.in_ok-brought.ensures.bound, length-take c.min-room.result c.loop-buffer.buffer);
       well = one_more g.R.ReadOnce.reads _ c.loop-buffer.reader _ c.loop-buffer.invariant.well
           (gave_some g.R.ReadOnce.reads _ _ _ _ c.in_ok-brought.ensures.once c.if-brought-eq0.false);

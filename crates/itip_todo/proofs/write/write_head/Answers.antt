@@ -19,7 +19,8 @@ returns c =
     c.in_ok-write_value.ensures ∙ ap (λ (value : List ℕ). old ++ contents_octets (bare (codes "UID") value ∷ []))
     (c.as_bytes.ensures.value ∙ c.as_str.ensures) in
     let second : c.write_value-2.new.out.items ≡ mid ++ contents_octets (stamp ∷ []) =
-    c.in_ok-write_value-2.ensures ∙ ap (λ (value : List ℕ). mid ++ contents_octets (bare (codes "DTSTAMP") value ∷ [])) c.stamp_bytes.ensures in
+    c.in_ok-write_value-2.ensures ∙ ap (λ (value : List ℕ). mid ++ contents_octets (bare (codes "DTSTAMP") value ∷ []))
+    c.stamp_bytes.ensures in
     on_ok_weaker c.write_number.result
     (λ (last : c.write_number.new.out.items ≡ c.write_value-2.new.out.items ++ contents_octets (seq ∷ [])).
     then_lines old c.write_value-2.new.out.items c.write_number.new.out.items (uid ∷ stamp ∷ []) (seq ∷ [])

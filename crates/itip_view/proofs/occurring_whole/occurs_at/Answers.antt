@@ -26,6 +26,7 @@ returns-in-Some-occurring c = λ heard uid is.
 
 pub returns-in-None : goal.returns-in-None
 returns-in-None c = λ heard uid is.
-    let known : IsOccurringWhole heard uid (Some c.in-Some.whole) = subst (λ (w : Option OccurringWhole). IsOccurringWhole heard uid w) c.in-Some.is is in
+    let known : IsOccurringWhole heard uid (Some c.in-Some.whole) =
+    subst (λ (w : Option OccurringWhole). IsOccurringWhole heard uid w) c.in-Some.is is in
     let none : AreOccurring heard uid None = subst (λ (o : Option Series). AreOccurring heard uid o) c.in-None.is known.1 in
     never (OccursAt heard uid c.args.at.now) (none c.args.at.now)

@@ -18,4 +18,5 @@ pub returns-in_err-write_row-clause-succeeds : goal.returns-in_err-write_row-cla
 returns-in_err-write_row-clause-succeeds c = λ none. absurd (none_left c.args.rows.now c.loop-row.row-index c.loop-row-test.true none)
 
 pub returns-in_err-extend_from_slice-clause-succeeds : goal.returns-in_err-extend_from_slice-clause-succeeds
-returns-in_err-extend_from_slice-clause-succeeds c = λ none. absurd (none_left c.args.rows.now c.loop-row.row-index c.loop-row-test.true none)
+returns-in_err-extend_from_slice-clause-succeeds c = λ none. absurd
+    (none_left c.args.rows.now c.loop-row.row-index c.loop-row-test.true none)

@@ -44,7 +44,8 @@ returns-clause-items c =
     nil_from_length (into_iter_items c.loop-item.item-iterator)
     (omega (arith, c.in-None.ensures.steps.0, c.loop-item.item-iterator.rest.ok.0)) in
     let whole : c.loop-item.shared.items ≡ c.args.items.items =
-    sym (append-nil c.loop-item.shared.items) ∙ (ap (λ (l : List Item). c.loop-item.shared.items ++ l) (sym none) ∙ c.loop-item.invariant) in
+    sym (append-nil c.loop-item.shared.items) ∙ (ap (λ (l : List Item). c.loop-item.shared.items ++ l) (sym none) ∙
+    c.loop-item.invariant) in
     let sorted = c.sort_unstable_by.new.self.items in
     if_ok_then (λ batch. IsItemsOf batch sorted) (λ batch. IsItemsOf batch c.args.items.items) c.of_shared.result
     (λ batch is. moved_items batch c.args.items.items sorted

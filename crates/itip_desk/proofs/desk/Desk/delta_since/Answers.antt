@@ -25,7 +25,8 @@ pub returns-then-tick-self-clause-succeeds : goal.returns-then-tick-self-clause-
 returns-then-tick-self-clause-succeeds c = λ _. c.of_shared.ensures.succeeds c.new.ensures.items
 
 pub returns-clause-delta : goal.returns-clause-delta
-returns-clause-delta c = if_ok_then (λ batch. IsItemsOf batch c.in_ok-shared_of.field-0.items) (IsDeltaOf c.args.self.now c.args.tick) c.of_shared-2.result
+returns-clause-delta c = if_ok_then (λ batch. IsItemsOf batch c.in_ok-shared_of.field-0.items) (IsDeltaOf c.args.self.now c.args.tick)
+    c.of_shared-2.result
     (λ batch is. delta_is c.args.self.now c.args.tick c.self.inside.kept c.in_ok-shared_of.field-0.items batch
     (map (λ u. u.now) c.in_ok-uids.uids.items)
     (ap (λ (d : Shown). d.kept) c.self.view_is)

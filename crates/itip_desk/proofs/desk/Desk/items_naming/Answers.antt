@@ -40,6 +40,7 @@ returns-clause-rows c =
     let at = (goal.at.returns-clause-rows c).After-shared_of in
     if_ok_then (λ v. ArePartOf v.items c.state.result.now (map (λ u. u.now) c.deref.result.now)) (λ v. (window : Window) (row : Row) →
     Shows c.args.address.now row → IsRow v.items window row ↔ IsRow c.args.self.now.kept window row) c.shared_of.result
-    (λ v are window. rows_showing v.items c.args.self.now.kept (map (λ u. u.now) c.in_ok-naming.naming.items) (part_of at v.items are) window
+    (λ v are window. rows_showing v.items c.args.self.now.kept (map (λ u. u.now) c.in_ok-naming.naming.items)
+    (part_of at v.items are) window
     c.args.address.now (found at))
     c.shared_of.ensures.part

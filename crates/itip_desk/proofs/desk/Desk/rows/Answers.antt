@@ -29,12 +29,14 @@ asked_is : (c : After-among) (asked : RowsByUid) →
 asked_is c asked is =
     asked_as (IsAmong (map (λ u. u.now) c.in_ok-uids.uids.items) (Wants c.all-wanted.result)) (λ row. Unit {0}) c.state-state.result.now
     c.args.self.now.kept c.args.window asked is (c.state-state.ensures ∙ ap (λ (d : Shown). d.kept) c.self.view_is)
-    (row_found c.args.self.now.kept c.args.window (map (λ u. u.now) c.in_ok-uids.uids.items) (Wants c.all-wanted.result) (found c) c.all-wanted.ensures)
+    (row_found c.args.self.now.kept c.args.window (map (λ u. u.now) c.in_ok-uids.uids.items) (Wants c.all-wanted.result)
+    (found c) c.all-wanted.ensures)
 
 pub returns-clause-rows : goal.returns-clause-rows
 returns-clause-rows c =
     let at = (goal.at.returns-clause-rows c).After-among in
-    if_ok_then (AreAsked (IsAmong (map (λ u. u.now) c.in_ok-uids.uids.items) (Wants c.all-wanted.result)) c.state-state.result.now c.args.window)
+    if_ok_then (AreAsked (IsAmong (map (λ u. u.now) c.in_ok-uids.uids.items) (Wants c.all-wanted.result)) c.state-state.result.now
+    c.args.window)
     (λ asked. (rows : List Row) → AreLeft asked rows ↔ AreRows c.args.self.now.kept c.args.window rows) c.among.result
     (λ asked is rows.
     let left = left_where (λ row. Unit {0}) c.args.self.now.kept c.args.window asked (asked_is at asked is) rows in
@@ -44,7 +46,8 @@ returns-clause-rows c =
 pub returns-clause-asked : goal.returns-clause-asked
 returns-clause-asked c =
     let at = (goal.at.returns-clause-asked c).After-among in
-    if_ok_then (AreAsked (IsAmong (map (λ u. u.now) c.in_ok-uids.uids.items) (Wants c.all-wanted.result)) c.state-state.result.now c.args.window)
+    if_ok_then (AreAsked (IsAmong (map (λ u. u.now) c.in_ok-uids.uids.items) (Wants c.all-wanted.result)) c.state-state.result.now
+    c.args.window)
     (AreAsked (λ row. Unit {0}) c.args.self.now.kept c.args.window) c.among.result (asked_is at) c.among.ensures.asked
 
 pub returns-in_err-uids-clause-succeeds : goal.returns-in_err-uids-clause-succeeds

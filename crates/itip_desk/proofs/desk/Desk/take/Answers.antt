@@ -114,7 +114,8 @@ returns-clause-step c = λ steps start.
     c.deref-3.ensures.value c.in_default.ensures.ok))
     (inl (some_moved c.in_ok-uids.uids.items c.args.self.now.kept c.args.batch.now (moved before) some, ap (λ t. t + 1) at))
     (carry_step c.in_ok-uids.uids.items c.self.inside.moves.carried c.prepare.new.self.carried c.mark.new.self.carried
-    (subst (λ us. HavePlaces us c.self.inside.moves.carried c.prepare.new.self.carried) c.deref-2.ensures.value c.prepare.ensures.places) (c.self.inside.tick + 1)
+    (subst (λ us. HavePlaces us c.self.inside.moves.carried c.prepare.new.self.carried) c.deref-2.ensures.value c.prepare.ensures.places)
+    (c.self.inside.tick + 1)
     (λ uid. c.mark.ensures uid ∙ ap (λ us. cond (is_listed us uid) (Some (c.self.inside.tick + 1))
     (tick_at c.prepare.new.self.carried uid)) c.deref-4.ensures.value)
     c.args.self.now new c.args.batch.now (sym (ap (λ (d : Shown). d.changed) c.self.view_is)) refl refl (moved before))
@@ -124,7 +125,8 @@ returns-clause-carried c =
     let before = (goal.at.returns-clause-carried c).In_ok-uids in
     let new : Shown = record { kept = c.hear.new.self; tick = c.self.inside.tick + 1; changed = c.mark.new.self.carried } in
     carried_on c.in_ok-uids.uids.items c.self.inside.moves.carried c.prepare.new.self.carried c.mark.new.self.carried
-    (subst (λ us. HavePlaces us c.self.inside.moves.carried c.prepare.new.self.carried) c.deref-2.ensures.value c.prepare.ensures.places) (c.self.inside.tick + 1)
+    (subst (λ us. HavePlaces us c.self.inside.moves.carried c.prepare.new.self.carried) c.deref-2.ensures.value c.prepare.ensures.places)
+    (c.self.inside.tick + 1)
     (λ uid. c.mark.ensures uid ∙ ap (λ us. cond (is_listed us uid) (Some (c.self.inside.tick + 1))
     (tick_at c.prepare.new.self.carried uid)) c.deref-4.ensures.value)
     c.args.self.now new c.args.batch.now (sym (ap (λ (d : Shown). d.changed) c.self.view_is)) refl refl (moved before)
@@ -195,7 +197,8 @@ returns-clause-told c = λ told.
     c.deref-3.ensures.value c.in_default.ensures.ok))
     (inl (some_moved c.in_ok-uids.uids.items c.args.self.now.kept c.args.batch.now (moved before) some, ap (λ t. t + 1) at))
     (carried_on c.in_ok-uids.uids.items c.self.inside.moves.carried c.prepare.new.self.carried c.mark.new.self.carried
-    (subst (λ us. HavePlaces us c.self.inside.moves.carried c.prepare.new.self.carried) c.deref-2.ensures.value c.prepare.ensures.places) (c.self.inside.tick + 1)
+    (subst (λ us. HavePlaces us c.self.inside.moves.carried c.prepare.new.self.carried) c.deref-2.ensures.value c.prepare.ensures.places)
+    (c.self.inside.tick + 1)
     (λ uid. c.mark.ensures uid ∙ ap (λ us. cond (is_listed us uid) (Some (c.self.inside.tick + 1))
     (tick_at c.prepare.new.self.carried uid)) c.deref-4.ensures.value)
     c.args.self.now new c.args.batch.now (sym (ap (λ (d : Shown). d.changed) c.self.view_is)) refl refl (moved before))

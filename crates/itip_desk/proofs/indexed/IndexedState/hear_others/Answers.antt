@@ -9,7 +9,8 @@ pub invariant_of-self : goal.invariant_of-self
 invariant_of-self c =
     let news : List Item = map (λ item. item.now) c.args.news.now in
     either_way c.hear.result c.hear.ensures.ok c.hear.ensures.err
-    (λ kept. index_stays c.self.inside.state news c.hear.new.self c.lawful.ensures.state c.requires kept c.self.inside.index c.self.invariant)
+    (λ kept. index_stays c.self.inside.state news c.hear.new.self c.lawful.ensures.state c.requires kept c.self.inside.index
+    c.self.invariant)
     (λ same. subst (λ (kept : List Item). IsIndexOf kept c.self.inside.index) (sym same) c.self.invariant)
 
 pub returns-clause-ok : goal.returns-clause-ok

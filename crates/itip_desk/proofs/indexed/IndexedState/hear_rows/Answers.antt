@@ -13,7 +13,8 @@ invariant_of-self c =
     let items : List Item = map (λ change. change.item) c.in_ok-changes.changes.items in
     either_way c.grow_and_hear-heard.result
     (ok_both (AreKept c.grow_and_hear-heard.new.state (c.self.inside.state ++ news))
-    ((e : IndexEntry) → IsNoted found e → has c.grow_and_hear-heard.new.index e ≡ true) c.grow_and_hear-heard.result c.grow_and_hear-heard.ensures.kept c.grow_and_hear-heard.ensures.all)
+    ((e : IndexEntry) → IsNoted found e → has c.grow_and_hear-heard.new.index e ≡ true) c.grow_and_hear-heard.result
+    c.grow_and_hear-heard.ensures.kept c.grow_and_hear-heard.ensures.all)
     c.grow_and_hear-heard.ensures.err
     (λ heard. index_after c.self.inside.state news found c.in_ok-giving.giving.items items c.self.inside.index
     c.grow_and_hear-heard.new.index c.settle.new.index c.self.invariant c.in_ok-changes.ensures.giving c.in_ok-changes.ensures.found

@@ -43,6 +43,7 @@ returns-in-None c =
     inl (
       λ g governs. subst (λ (p : UidPart). (i : Item) → Governs p.items p.uid c.args.id.now i → ⊥) c.items-items.ensures
           c.in-None.ensures g
-          (governs_down (heard_by c.args.self.now) part.items part.uid c.requires.sound.about c.requires.sound.kept c.args.id.now g governs),
+          (governs_down (heard_by c.args.self.now) part.items part.uid c.requires.sound.about c.requires.sound.kept
+          c.args.id.now g governs),
       refl,
     )

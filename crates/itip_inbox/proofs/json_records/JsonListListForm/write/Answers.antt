@@ -21,7 +21,8 @@ no_row g c none all are =
 
 -- the array is opened with the first rows
 opened : (g : Over) (c : In_ok-done g) →
-    MovesOut (g.W.Write.contents c.args.writer.now) (g.W.Write.contents c.open_array-done.new.writer) (opened_text c.in_ok-first.first.items)
+    MovesOut (g.W.Write.contents c.args.writer.now) (g.W.Write.contents c.open_array-done.new.writer)
+    (opened_text c.in_ok-first.first.items)
     c.open_array-done.new.kept.items
 opened g c =
     subst (λ (t : List ℕ). MovesOut (g.W.Write.contents c.args.writer.now) (g.W.Write.contents c.open_array-done.new.writer) t
@@ -36,7 +37,8 @@ returns-in_err-first-clause-front g c =
 pub returns-then-is_empty-clause-all : goal.returns-then-is_empty-clause-all
 returns-then-is_empty-clause-all g c =
     on_ok_weaker c.write_output.result (λ appended few.
-    subst (λ (rows : List Row). Appends (g.W.Write.contents c.args.writer.now) (g.W.Write.contents c.write_output.new.writer) (json_text rows))
+    subst (λ (rows : List Row). Appends (g.W.Write.contents c.args.writer.now) (g.W.Write.contents c.write_output.new.writer)
+    (json_text rows))
     (sym (no_row g (goal.at.returns-then-is_empty-clause-all g c).In_ok-first (sym c.is_empty.ensures ∙ c.if-is_empty.true) few.rows
     few.are_left)) appended) c.write_output.ensures.all
 

@@ -6,7 +6,8 @@ use Rattle.itip_inbox.proofs.open_inbox.OpenInbox.hear.Goals as goal
 
 pub returns-clause-keeps : goal.returns-clause-keeps
 returns-clause-keeps g c = λ before got.
-    got_more (option_copied c.args.about) before c.args.self.now c.hear_waiting.new.self c.take_next.new.self (messages_of c.args.octets.now)
+    got_more (option_copied c.args.about) before c.args.self.now c.hear_waiting.new.self c.take_next.new.self
+    (messages_of c.args.octets.now)
     c.in_ok-hear_waiting.ensures.source c.in_ok-hear_waiting.ensures.messages
     (c.in_ok-take_next.ensures.waiting ∙ c.in_ok-hear_waiting.ensures.none)
     (c.in_ok-take_next.ensures.keeps (option_copied c.args.about) before (messages_of c.args.octets.now)

@@ -9,7 +9,8 @@ use Rattle.itip_inbox.proofs.refusals.Refusals.push.Goals as goal
 pub invariant_of-self-in-Ok : goal.invariant_of-self-in-Ok
 invariant_of-self-in-Ok c =
     subst (λ (causes : List MessageCause). ArePacked causes c.push_places.new.octets.items) (sym c.in_ok-push.ensures.items)
-    (one_packed c.self.inside.causes.items c.self.inside.places.items c.push_places.new.octets.items c.args.refused c.self.invariant (search rules)
+    (one_packed c.self.inside.causes.items c.self.inside.places.items c.push_places.new.octets.items c.args.refused c.self.invariant
+    (search rules)
     (c.in-Ok.ensures.adds _ c.self.invariant.spelled))
 
 pub returns-in-Ok-clause-adds : goal.returns-in-Ok-clause-adds

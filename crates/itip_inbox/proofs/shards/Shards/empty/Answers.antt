@@ -9,7 +9,8 @@ use Rattle.itip_inbox.proofs.shards.Shards.empty.Goals as goal
 -- one shard more that keeps nothing
 none_more : (shards now : List Shard) (one : Shard) → kept_in shards ≡ [] → one.state ≡ [] → now ≡ shards ++ one ∷ [] → kept_in now ≡ []
 none_more shards now one none empty is =
-    ap kept_in is ∙ kept_both shards (one ∷ []) ∙ ap (λ (t : List Item). t ++ kept_in (one ∷ [])) none ∙ ap (λ (t : List Item). t ++ []) empty
+    ap kept_in is ∙ kept_both shards (one ∷ []) ∙ ap (λ (t : List Item). t ++ kept_in (one ∷ [])) none ∙
+    ap (λ (t : List Item). t ++ []) empty
 
 some_more : (shards now : List Shard) (one : Shard) → now ≡ shards ++ one ∷ [] → zero < length now
 some_more shards now one is =

@@ -21,7 +21,8 @@ returns c =
       c.in_ok-news.news.ok.0,
     ) in
     let two = outdone_at c.self.inside.shards.items c.self.invariant c.shard_of-number.result c.len.result c.uid.result.now item
-    c.index.result.now c.shard_of-number.ensures.number many (c.uid.ensures ∙ ap (λ (i : Item). uid_of i.key) c.deref.ensures) c.index.ensures in (
+    c.index.result.now c.shard_of-number.ensures.number many (c.uid.ensures ∙ ap (λ (i : Item). uid_of i.key) c.deref.ensures)
+    c.index.ensures in (
       λ yes. subst (λ (kept : List Item). IsOutdone kept item) c.self.view_is
           (two.0 (alone.0 (nil_from_length told (long ∙
           (Decides-eqb (vec_len c.in_ok-news.news) 0).0 (sym c.is_empty.ensures ∙ yes))))),

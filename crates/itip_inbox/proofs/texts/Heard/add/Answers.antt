@@ -9,7 +9,8 @@ use Rattle.itip_inbox.proofs.texts.Heard.add.Goals as goal
 
 pub returns-in_ok-add_news-in-Ok-clause-tells : goal.returns-in_ok-add_news-in-Ok-clause-tells
 returns-in_ok-add_news-in-Ok-clause-tells c = λ texts so_far.
-    one_tells (option_copied c.args.about) c.args.kept.now c.args.source c.in_ok-message.message texts c.args.text.now c.args.self.now so_far
+    one_tells (option_copied c.args.about) c.args.kept.now c.args.source c.in_ok-message.message texts c.args.text.now
+    c.args.self.now so_far
     c.in_ok-message.ensures.sum _ refl
     (beside_items (option_copied c.args.about) c.args.kept.now (placed_from c.args.source 1 texts) c.args.self.now.news.items
     c.args.self.now.refusals c.args.self.now.told.items so_far.beside
@@ -24,7 +25,8 @@ returns-in_ok-push-in-Err-Refused-clause-tells c = λ texts so_far.
     let refused : RefusesMessage c.args.text.now c.in-Err-Refused.refusal =
     rw c.in-Err-Refused.field-0-is at c.in-Err-Refused.ensures.fault in
     let pushed = rw c.in-Err-Refused.field-0-is at c.in_ok-push-in-Err-Refused.ensures.adds in
-    one_tells (option_copied c.args.about) c.args.kept.now c.args.source c.in_ok-message.message texts c.args.text.now c.args.self.now so_far
+    one_tells (option_copied c.args.about) c.args.kept.now c.args.source c.in_ok-message.message texts c.args.text.now
+    c.args.self.now so_far
     c.in_ok-message.ensures.sum _ refl
     (beside_refusal (option_copied c.args.about) c.args.kept.now (placed_from c.args.source 1 texts) c.args.self.now.news.items
     c.args.self.now.refusals c.args.self.now.told.items so_far.beside

@@ -11,7 +11,8 @@ pub returns-in_err-put_value-clause-refused : goal.returns-in_err-put_value-clau
 returns-in_err-put_value-clause-refused c =
     let p = err_from_is_err_and c.from_residual.result c.from_residual.ensures.1 in
     rw (p.1, p.2)
-    (subst (λ (old : List NumberedLine). IfRefused c.in_err-put_value.field-0.0 (RefusesValue (codes "UID:") c.args.uid.now (next_number old)))
+    (subst (λ (old : List NumberedLine). IfRefused c.in_err-put_value.field-0.0
+    (RefusesValue (codes "UID:") c.args.uid.now (next_number old)))
     c.new.ensures.items c.in_err-put_value.ensures.refused)
 
 pub returns-in_err-put-clause-refused : goal.returns-in_err-put-clause-refused

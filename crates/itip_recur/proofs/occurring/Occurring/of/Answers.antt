@@ -11,6 +11,7 @@ same_moments xs ys all = AllZip-map (λ (m : Moment). m) xs ys all ∙ map-id xs
 pub invariant_of-result : goal.invariant_of-result
 invariant_of-result c = (
   λ m. subst (λ (xs : List Moment). Contains c.in_ok-rdates.rdates.moments.items m ↔ Contains xs m)
-      (c.into_vec.ensures ∙ same_moments c.args.series.rdates c.in_ok-clone.field-0 c.in_ok-clone.ensures.cases.0) (c.in_ok-rdates.ensures m),
+      (c.into_vec.ensures ∙ same_moments c.args.series.rdates c.in_ok-clone.field-0 c.in_ok-clone.ensures.cases.0)
+      (c.in_ok-rdates.ensures m),
   c.of_series-days.ensures,
 )

@@ -17,6 +17,7 @@ returns-in-Ok-clause-rows c =
     if_ok_then (λ part. AreKept part c.in-Ok.items.items) (λ part. HasRowsFor c.args.address.now part
     (heard (batches_of c.close-end.result.front.seen.log))) c.state_of-part.result
     (λ part kept. subst (λ (l : List Items). HasRowsFor c.args.address.now part (heard l)) (sym same)
-    (rows_for_of_items part c.in-Ok.items.items c.desk.result.now.kept all kept c.desk.ensures.kept c.args.address.now c.in-Ok.ensures.rows))
+    (rows_for_of_items part c.in-Ok.items.items c.desk.result.now.kept all kept c.desk.ensures.kept c.args.address.now
+    c.in-Ok.ensures.rows))
     (subst (λ (items : List Item). IfOk c.state_of-part.result (λ part. AreKept part items)) c.deref.ensures.value
     c.state_of-part.ensures.kept)

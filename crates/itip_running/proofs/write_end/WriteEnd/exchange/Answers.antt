@@ -35,7 +35,8 @@ invariant_of-end-in-Ok-done g c =
     let state : state_of p.desk.shown.value ≡ fold applied_to (state_of w.desk.shown.value) (drop w.behind w.log.items) = search rules in
     let none : drop p.behind p.log.items ≡ [] = search rules in
     let s = after_mark w.desk.shown.value p.desk.shown.value ops m
-    (subst (λ (l : List Op). state_of p.desk.shown.value ≡ fold applied_to (state_of w.desk.shown.value) l) c.in-Ok.ensures.pending state) in
+    (subst (λ (l : List Op). state_of p.desk.shown.value ≡ fold applied_to (state_of w.desk.shown.value) l)
+    c.in-Ok.ensures.pending state) in
     let log : published_groups p.desk.shown.value ≡ k.last.seen.log = ap (λ t. t.2) s ∙ ap (λ s. s.log) c.again.ensures in
     record {
       begins = begins_all (published_groups p.desk.shown.value) k.last.seen.log log;
@@ -58,7 +59,8 @@ returns-in-Ok-done-clause-ok g c =
     let state : state_of p.desk.shown.value ≡ fold applied_to (state_of w.desk.shown.value) (drop w.behind w.log.items) = search rules in
     let none : drop p.behind p.log.items ≡ [] = search rules in
     let s = after_mark w.desk.shown.value p.desk.shown.value ops m
-    (subst (λ (l : List Op). state_of p.desk.shown.value ≡ fold applied_to (state_of w.desk.shown.value) l) c.in-Ok.ensures.pending state) in
+    (subst (λ (l : List Op). state_of p.desk.shown.value ≡ fold applied_to (state_of w.desk.shown.value) l)
+    c.in-Ok.ensures.pending state) in
     (ap (λ t. t.2) s ∙ ap (λ s. s.log) c.again.ensures, ap takes none)
 
 pub invariant_of-end-in-Err-done : goal.invariant_of-end-in-Err-done

@@ -20,7 +20,8 @@ pub returns-clause-at_once : goal.returns-clause-at_once
 returns-clause-at_once g c =
     let k = c.args.self in
     let more : writer_calls c.call.new.self ≡ writer_calls k ++ writer_fresh k ∷ [] = search rules in
-    on_ok_weaker c.exchange.result.1 (λ h. shown_call (writer_groups k) (writer_calls k) (writer_fresh k) (writer_groups c.exchange.result.0)
+    on_ok_weaker c.exchange.result.1 (λ h. shown_call (writer_groups k) (writer_calls k) (writer_fresh k)
+    (writer_groups c.exchange.result.0)
     (writer_calls c.exchange.result.0) (writer_fresh c.exchange.result.0) k.begins (h.0 ∙ more)
     (c.exchange.ensures.calls.0 ∙ more) c.exchange.ensures.calls.1)
     c.exchange.ensures.ok
@@ -31,7 +32,8 @@ returns-clause-refused g c =
     let end = c.exchange.result.0 in
     let more : writer_calls c.call.new.self ≡ writer_calls k ++ writer_fresh k ∷ [] = search rules in
     let writer : c.call.new.self.writer ≡ k.writer = search rules in
-    on_err_weaker c.exchange.result.1 (λ h. refused_call (writer_groups k) (writer_calls k) (writer_fresh k) (writer_groups end) (writer_calls end)
+    on_err_weaker c.exchange.result.1 (λ h. refused_call (writer_groups k) (writer_calls k) (writer_fresh k) (writer_groups end)
+    (writer_calls end)
     (writer_fresh end) (ap published_groups h.0 ∙ ap (λ w. published_groups w.desk.shown.value) writer) (c.exchange.ensures.calls.0 ∙ more)
     c.exchange.ensures.calls.1)
     c.exchange.ensures.err

@@ -20,7 +20,8 @@ abbrev mid : After-replace → List (List ℕ × UidState)
 mid c = uid_states c.replace.new.self.map uid_state
 
 first : (c : After-replace) (q : List ℕ) →
-    at (mid c) q ≡ cond (is_eq (uid_cmp c.args.uid.now q)) (replaced (at (old c) c.args.uid.now) (uid_state c.of_nothing.result)) (at (old c) q)
+    at (mid c) q ≡ cond (is_eq (uid_cmp c.args.uid.now q)) (replaced (at (old c) c.args.uid.now) (uid_state c.of_nothing.result))
+    (at (old c) q)
 first c = replaced_seen uid_state c.self.inside.map.map c.replace.new.self.map c.args.uid.now c.of_nothing.result c.replace.ensures.with
 
 -- nothing is held of the UID
@@ -35,7 +36,8 @@ returns-in_default-clause-raised c =
     let a = (goal.at.returns-in_default-clause-raised c).After-replace in
     let none = seen_none uid_state c.self.inside.map.map c.args.self.now c.self.view_is c.args.uid.now c.in_default.ensures.before in
     subst (λ o. IsRaisedAt o c.args.best (at (mid a) c.args.uid.now)) (sym none)
-    (put_at (old a) (mid a) c.args.uid.now c.args.uid.now (replaced (at (old a) c.args.uid.now) (uid_state c.of_nothing.result)) refl (first a)
+    (put_at (old a) (mid a) c.args.uid.now c.args.uid.now (replaced (at (old a) c.args.uid.now) (uid_state c.of_nothing.result))
+    refl (first a)
     ∙ ap (λ o. replaced o (uid_state c.of_nothing.result)) (ap (λ es. at es c.args.uid.now) c.self.view_is ∙ none))
 
 pub returns-in_default-clause-others : goal.returns-in_default-clause-others
@@ -72,7 +74,8 @@ put c = replaced_twice (uid_states c.self.inside.map.map uid_state) (uid_states 
 pub invariant_of-self-2 : goal.invariant_of-self-2
 invariant_of-self-2 c =
     let a = (goal.at.invariant_of-self-2 c).After-replace-2 in
-    tracked_kept c.args.uid.now c.self.inside.due c.remove-due.new.self (uid_states c.self.inside.map.map uid_state) (now a) c.self.invariant
+    tracked_kept c.args.uid.now c.self.inside.due c.remove-due.new.self (uid_states c.self.inside.map.map uid_state)
+    (now a) c.self.invariant
     (Some (uid_state c.raised-held.result.0)) (put a) c.keep.new.due c.remove-due.ensures.updates c.keep.ensures.others
     c.raised-held.result.1 c.keep.ensures.here (uid_state c.raised-held.result.0) refl c.raised-held.ensures.due
 
@@ -89,7 +92,8 @@ returns-clause-raised c =
 pub returns-clause-others : goal.returns-clause-others
 returns-clause-others c = λ q n.
     let a = (goal.at.returns-clause-others c).After-replace-2 in
-    put_apart (uid_states c.self.inside.map.map uid_state) (now a) c.args.uid.now c.args.uid.now (Some (uid_state c.raised-held.result.0)) refl
+    put_apart (uid_states c.self.inside.map.map uid_state) (now a) c.args.uid.now c.args.uid.now
+    (Some (uid_state c.raised-held.result.0)) refl
     (put a) q n ∙ ap (λ es. at es q) c.self.view_is
 
 pub returns-clause-ordered : goal.returns-clause-ordered

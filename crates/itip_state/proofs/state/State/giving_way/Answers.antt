@@ -27,14 +27,16 @@ loop-item-preserved c =
     ∙ ap (λ x. take c.loop-item.item-index c.args.news.now ++ x ∷ []) (sym c.item-item.is)) ∙
     map-append (λ item. item.now) (take c.loop-item.item-index c.args.news.now) (c.item-item.result ∷ []) in
     let given : GivenFor (items_of c.self.inside.held) news c.loop-item.items.items c.loop-item.greatest =
-    subst (λ (set : List Item). GivenFor set news c.loop-item.items.items c.loop-item.greatest) (sym c.self.view_is) c.loop-item.invariant in
+    subst (λ (set : List Item). GivenFor set news c.loop-item.items.items c.loop-item.greatest)
+    (sym c.self.view_is) c.loop-item.invariant in
     subst (λ (set : List Item). GivenFor set (map (λ item. item.now) (take (c.loop-item.item-index + 1) c.args.news.now))
     c.match-get.items.items c.match-get.greatest) c.self.view_is
     (subst (λ (ns : List Item). GivenFor (items_of c.self.inside.held) ns c.match-get.items.items c.match-get.greatest) (sym more)
     (elim c.match-get.branch [
       | in-Some+in_ok-share_at+in_ok-note_greatest w ↦
           given_more c.self.inside.held c.self.invariant news c.loop-item.items.items c.loop-item.greatest item given
-          (uid_state w.in-Some.held.now) (ap (at c.self.inside.held) (sym c.uid.ensures) ∙ sym w.in-Some.ensures.found) c.match-get.items.items
+          (uid_state w.in-Some.held.now) (ap (at c.self.inside.held) (sym c.uid.ensures) ∙ sym w.in-Some.ensures.found)
+          c.match-get.items.items
           (ap (λ v. v.items) w.items-is ∙ w.in_ok-share_at.ensures) c.match-get.greatest
           (subst (AreNotedWith c.loop-item.greatest item) (sym w.greatest-is) w.in_ok-note_greatest.ensures.noted)
           (subst (λ (g : List (List ℕ × ℕ)). IsStrictlySortedBy uid_cmp (keys_of g)) (sym w.greatest-is) w.note_greatest.ensures.sorted)
@@ -57,8 +59,10 @@ loop-uid-init c =
 pub loop-uid-preserved : goal.loop-uid-preserved
 loop-uid-preserved c =
     let news : List Item = map (λ item. item.now) c.args.news.now in
-    subst (λ (set : List Item). GivenBelow set news c.share_under.new.items.items c.into_iter-uid-iterator.result c.next.new.self) c.self.view_is
-    (below_more c.self.inside.held c.self.invariant news c.loop-uid.items.items c.share_under.new.items.items c.into_iter-uid-iterator.result
+    subst (λ (set : List Item). GivenBelow set news c.share_under.new.items.items c.into_iter-uid-iterator.result c.next.new.self)
+    c.self.view_is
+    (below_more c.self.inside.held c.self.invariant news c.loop-uid.items.items c.share_under.new.items.items
+    c.into_iter-uid-iterator.result
     c.next.new.self c.loop-uid.uid-iterator c.in-Some-2.uid.now c.in-Some-2.sequence.now c.in-Some-2.ensures.steps
     (subst (λ (set : List Item). GivenBelow set news c.loop-uid.items.items c.into_iter-uid-iterator.result c.loop-uid.uid-iterator)
     (sym c.self.view_is) c.loop-uid.invariant) c.in_ok-share_under.ensures)

@@ -16,7 +16,8 @@ returns c =
     let uid : List ℕ = c.args.self.now.uid in
     let item : Item = c.in-Some.whole.item.now in
     let governing : Item = c.in_ok-governing.governing.item.now in
-    let whole : IsOccurringWhole items uid (Some c.in-Some.whole) = subst (λ (w : Option OccurringWhole). IsOccurringWhole items uid w) c.in-Some.is
+    let whole : IsOccurringWhole items uid (Some c.in-Some.whole) =
+    subst (λ (w : Option OccurringWhole). IsOccurringWhole items uid w) c.in-Some.is
     (subst (λ (p : UidPart). IsOccurringWhole p.items p.uid c.self.inside.whole) c.self.view_is c.self.invariant.0) in
     let shown : AreShown items (series_answers uid item) governing.todo.attendees c.in_ok-row.row.attendees =
     subst (λ (qs : Questions). AreShown items (asked_by uid qs) governing.todo.attendees c.in_ok-row.row.attendees) c.only-questions.ensures

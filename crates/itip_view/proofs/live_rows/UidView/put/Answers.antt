@@ -68,7 +68,8 @@ loop-at-preserved c =
     let old : List ℕ = c.args.out.now.items in
     let mid : List ℕ = c.loop-at.out.items in
     let new : List ℕ = c.put_place-in-loop-at.new.out.items in
-    subst (λ (n : ℕ). PutUpTo wanted part window (take (i + 1) moments) old new (c.loop-at.number + n)) (sym c.from-number-in-loop-at.ensures)
+    subst (λ (n : ℕ). PutUpTo wanted part window (take (i + 1) moments) old new (c.loop-at.number + n))
+    (sym c.from-number-in-loop-at.ensures)
     (subst (λ (ms : List Moment). PutUpTo wanted part window ms old new (c.loop-at.number + from_bool c.in_ok-is_put-2.is_put)) (sym done)
     (put_more wanted part window (take i moments) at old mid new c.loop-at.number c.loop-at.invariant later c.place_at.result
     c.place_at.ensures c.in_ok-is_put-2.is_put c.in_ok-is_put-2.ensures))

@@ -33,5 +33,6 @@ returns c =
     (λ shows told shown are. ap (λ (named : Option (List ℕ)). shows_named c.args.wanted.now.is_open named shown)
     (ap option_copied c.in-Some.is) ∙ told shown
     (subst (λ (ls : List Property). AreShown part.items (asked_by part.uid c.questions-questions.result) ls shown) (sym lines)
-    (subst (λ (qs : Questions). AreShown part.items (asked_by part.uid qs) item.todo.attendees shown) (sym c.questions-questions.ensures) are)))
+    (subst (λ (qs : Questions). AreShown part.items (asked_by part.uid qs) item.todo.attendees shown)
+    (sym c.questions-questions.ensures) are)))
     c.shows.ensures
