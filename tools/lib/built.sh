@@ -8,7 +8,8 @@ built=$top/.built
 listing() {
     (
         cd "$top" || exit
-        find -L "$(command -v rt)" HANDLES crates.txt crates bench/itip_* tools/itip_* examples/library -name out -prune -o -type f -printf '%p %s %T@\n' 2>/dev/null | LC_ALL=C sort | sha256sum
+        find -L "$(command -v rt)" HANDLES crates.txt crates bench/itip_* tools/itip_* examples/library \
+            -name out -prune -o -type f -printf '%p %s %T@\n' 2>/dev/null | LC_ALL=C sort | sha256sum
     )
 }
 

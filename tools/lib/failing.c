@@ -1,8 +1,9 @@
-/* Loaded before a program (LD_PRELOAD), has its reads, its writes or what it does to a file fail, or ends it. READ_MOST: a read gives at most so many octets.
-   READ_FAILS: the read of standard input of this number, counted from 1, fails; FILE_FAILS: that of files. WRITE_TAKES: after so many octets a write to
-   standard output fails, or accepts none where WRITE_NOUGHT is there; FILE_TAKES: a write to files. SYNC_FAILS, RENAME_FAILS: these fail. DIES_AT: the
-   program is killed before its write to a file, sync or rename of this number. READS names a file of eight octets in which the number of reads of standard
-   input stands. For tools/hostile alone; no proof speaks of it. */
+/* Loaded before a program (LD_PRELOAD), has its reads, its writes or what it does to a file fail, or ends it. READ_MOST: a read gives at
+   most so many octets. READ_FAILS: the read of standard input of this number, counted from 1, fails; FILE_FAILS: that of files.
+   WRITE_TAKES: after so many octets a write to standard output fails, or accepts none where WRITE_NOUGHT is there; FILE_TAKES: a write to
+   files. SYNC_FAILS, RENAME_FAILS: these fail. DIES_AT: the program is killed before its write to a file, sync or rename of this number.
+   READS names a file of eight octets in which the number of reads of standard input stands. For tools/hostile alone; no proof speaks of
+   it. */
 #define _GNU_SOURCE
 #include <errno.h>
 #include <fcntl.h>

@@ -1,5 +1,6 @@
 /* Loaded before a program (LD_PRELOAD), refuses one of its requests for memory: the one of the number REFUSE, counted from 1.
-   Where COUNT names a file of eight octets, it keeps the number of requests so far there. For tools/refusals alone; no proof speaks of it. */
+   Where COUNT names a file of eight octets, it keeps the number of requests so far there. For tools/refusals alone; no proof speaks of
+   it. */
 #define _GNU_SOURCE
 #include <errno.h>
 #include <fcntl.h>

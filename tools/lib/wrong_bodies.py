@@ -13,9 +13,9 @@ import repository
 EDITS = os.path.join(repository.TOP, "edits")
 RECORD = os.path.join(EDITS, "RECORD")
 HEAD = """\
-# The wrong bodies of edits/: when each was last refused, a sum of the text that it was tried on, or of one in which only names and
-# breaks of lines are others (the edit, its crate, and what the crates below it state, without comments and docs, and the
-# toolchain's logic), and how: at a goal of the function that it changes (goal) or of another (caller), since a proof by hand no
+# The wrong bodies of edits/: when each was last refused, a sum of the text that it was tried on, or of one in which only names, breaks
+# of lines and the division of imports are others (the edit, its crate, and what the crates below it state, without comments and docs,
+# and the toolchain's logic), and how: at a goal of the function that it changes (goal) or of another (caller), since a proof by hand no
 # longer fits (proof), for a lost name (name), or by a limit of the prover (limit).
 """
 # What says little of a contract: such an edit is due until it is refused in another way.

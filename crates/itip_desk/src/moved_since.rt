@@ -75,8 +75,8 @@ impl MovedUids {
         self.ticks.get(uid).copied()
     }
 
-    /// Gives each of these UIDs a place and a move at this tick. If an allocation fails, each carries what it did before, and moves may stay
-    /// in the list until the next call.
+    /// Gives each of these UIDs a place and a move at this tick. If an allocation fails, each carries what it did before, and moves may
+    /// stay in the list until the next call.
     pub(crate) fn prepare(&mut self, uids: &[Uid], tick: u64) -> Result<(), AllocError>
         requires ticks { AreTicks self.old.carried }
         requires before { AreBefore tick self.old.carried }
@@ -141,7 +141,8 @@ impl MovedUids {
         Ok(uids)
     }
 
-    /// States what is always true: what the UIDs carry is sorted by UID, each once. It does nothing; it is called so that a proof knows this.
+    /// States what is always true: what the UIDs carry is sorted by UID, each once. It does nothing; it is called so that a proof knows
+    /// this.
     pub(crate) fn lawful(&self)
         ensures { IsStrictlySortedBy (slice_cmp nat_cmp) (keys_of self.now.carried) }
     {
